@@ -1,0 +1,12 @@
+pub mod Lists
+pub mod Ranks
+pub mod Integer
+pub mod Numbers
+pub mod Least
+pub mod Cut
+pub mod Tree
+pub mod Order
+pub mod Complete
+pub mod Lead
+pub mod Search
+pub mod Demand
