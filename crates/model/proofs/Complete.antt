@@ -19,7 +19,7 @@ use Rattle.model.specs.Soft.{Least, infinite, finite, leastOf, pick, rep
 use Rattle.model.specs.Walk.{isLeaf, leaves, clipLimit, smaller, limit, isOpen, anyOf, passes, opposite, passesAfter, children, Progress, withWalked, withCut, visit, walkBelow, walkWhole, walk, cutChildren}
 use Rattle.model.specs.Block.{_∈_}
 use Rattle.model.specs.Demand.{InCutSubtree, WalkedAndCut}
-use Rattle.model.proofs.Integer.{leZ-trans}
+use Rattle.integers.proofs.Order.{leZ-trans}
 use Rattle.model.proofs.Lists.{or-left, or-right, any-false, in-upFrom, in-those, of-those}
 use Rattle.model.proofs.Least.{AtMost, pick-in, pick-metric}
 use Rattle.model.proofs.Cut.{_⊆_, Cut, Beyond, bestLimit, cut-mono, exact-report}

@@ -17,7 +17,8 @@ use Rattle.model.specs.Metric.{Vector, metricOf, bitAt, priorAt, labelBi
 use Rattle.model.specs.Soft.{Least, infinite, finite, pick, leastWith, softValue, softAt, report}
 use Rattle.model.specs.Walk.{clipLimit, opposite}
 use Rattle.model.specs.Block.{_∈_}
-use Rattle.model.proofs.Integer.{leZ-add, leZ-trans, limit-high, limit-low, clip-high, clip-low}
+use Rattle.integers.proofs.Order.{leZ-add, leZ-trans}
+use Rattle.model.proofs.Clip.{limit-high, limit-low, clip-high, clip-low}
 use Rattle.model.proofs.Lists.{map-upFrom}
 use Rattle.model.proofs.Ranks.{order-head, order-antisym}
 use Rattle.model.proofs.Least.{AtMost, rankOf, Lex, pick-in, pick-least, least-le, least-in, Attained}

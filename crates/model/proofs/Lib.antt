@@ -1,7 +1,9 @@
 pub mod Lists
 pub mod Ranks
-pub mod Integer
+pub mod Clip
 pub mod Numbers
+pub mod Gray
+pub mod Bounds
 pub mod Least
 pub mod Cut
 pub mod Tree

@@ -1,11 +1,12 @@
 -- Bits and numbers, for any width. The first bit counts for more than all the others together, so a number below 2 ^ w and a string of
 -- w bits determine each other, and shift and mask read off a bit.
 use Prim.Native.Nat.{ℕ, zero, suc, _+_, _-_, _*_, _/_, _%_, _^_, _<_}
-use mathlib.Core.Path.{_≡_, refl, sym, _∙_, ap, ap₂, subst}
-use mathlib.Core.Logic.{_⊎_, inl, inr, _↔_}
+use mathlib.Core.Path.{_≡_, refl, sym, _∙_, ap, ap₂}
+use mathlib.Core.Logic.{_↔_}
 use mathlib.Core.Bool.{Bool, true, false, cond}
-use mathlib.Core.List.{List, [], _∷_, _++_, map, map-map, map-append, List·Memᴰ·head, List·Memᴰ·tail, List·Memᴰ·append-cases, List·Memᴰ·eq-of-singleton, Memᴰ·of-map}
-use native.Mathlib.Nat.{two-pow-succ, zero-add, add-zero, suc-add, add-suc, mod-lt, mod-eq-of-lt, mul-lt-mul-of-pos-right, lt-of-mul-lt-mul-right}
+use mathlib.Core.List.{List, [], _∷_, _++_, map, map-map, map-append}
+use mathlib.Core.List.{List·Memᴰ·head, List·Memᴰ·tail}
+use native.Mathlib.Nat.{two-pow-succ, zero-add, add-zero, suc-add, add-suc, mod-eq-of-lt, mul-lt-mul-of-pos-right, lt-of-mul-lt-mul-right}
 use native.Mathlib.Omega.{arith}
 use lib.ListN.{length, take, drop, length-append, length-drop}
 use lib.Pow.{pow-add, pow-pos, high, mod-pow-add}
@@ -15,6 +16,7 @@ use Rattle.model.specs.Constellation.{Bits, number, bitsOf, symbols}
 use Rattle.model.specs.Metric.{bitAt}
 use Rattle.model.specs.Soft.{upFrom}
 use Rattle.model.specs.Block.{_∈_}
+use Rattle.model.proofs.Lists.{symbols-length}
 
 -- A number of w bits is below 2 ^ w
 pub number-below : (s : Bits) → number s < 2 ^ length s
@@ -51,6 +53,7 @@ siblings s t node = rw (number-append s node, number-append t node) (
   (λ h. let k = mul-lt-mul-of-pos-right h (pow-pos (length node)) in omega arith),
 )
 
+-- As many bits as asked for
 pub length-bitsOf : (w n : ℕ) → length (bitsOf w n) ≡ w
 unfolding bitsOf
 length-bitsOf zero n = refl
@@ -78,7 +81,7 @@ number-bitsOf w n h = number-bitsOf-mod w n ∙ mod-eq-of-lt h
 
 -- Bits to a number and back
 pub bitsOf-number : (s : Bits) → bitsOf (length s) (number s) ≡ s
-bitsOf-number s = number-injective (bitsOf (length s) (number s)) s (length-bitsOf (length s) (number s)) (number-bitsOf (length s) (number s) (number-below s))
+bitsOf-number s = number-injective _ s (length-bitsOf (length s) (number s)) (number-bitsOf (length s) (number s) (number-below s))
 
 -- The bit between s and t, by a shift and a mask
 bit-between : (s t : Bits) (b : Bool) → number (s ++ b ∷ t) / 2 ^ length t % 2 ≡ cond b 1 0
@@ -96,20 +99,8 @@ bit-between s t b = rw (digits b, high (number s * 2 + cond b 1 0) (length t) (n
 -- Bit i of a label, counted from its first, is bit (length - 1 - i) of its number
 pub bit-of-number : (l : Bits) (i : ℕ) → i < length l → number l / 2 ^ (length l - suc i) % 2 ≡ cond (bitAt i l) 1 0
 bit-of-number l i h = rw (← length-drop (suc i) l)
-    (ap (λ (x : Bits). number x / 2 ^ length (drop (suc i) l) % 2) (split-at l i false h) ∙ bit-between (take i l) (drop (suc i) l) (bitAt i l))
-
--- Each symbol has q bits
-pub symbols-length : (q : ℕ) (s : Bits) → s ∈ symbols q → length s ≡ q
-unfolding symbols
-symbols-length zero s h = ap length (List·Memᴰ·eq-of-singleton h)
-symbols-length (suc q) s h = go (symbols-length q) (List·Memᴰ·append-cases (map (_∷_ false) (symbols q)) h)
-  where
-    put : (b : Bool) → ((t : Bits) → t ∈ symbols q → length t ≡ q) → s ∈ map (_∷_ b) (symbols q) → length s ≡ suc q
-    put b ih k = let r = Memᴰ·of-map (_∷_ b) (symbols q) k in ap length (sym (r .2)) ∙ ap suc (ih (r .0) (r .1))
-
-    go : ((t : Bits) → t ∈ symbols q → length t ≡ q) → (s ∈ map (_∷_ false) (symbols q)) ⊎ (s ∈ map (_∷_ true) (symbols q)) → length s ≡ suc q
-    go ih (inl k) = put false ih k
-    go ih (inr k) = put true ih k
+    (ap (λ (x : Bits). number x / 2 ^ length (drop (suc i) l) % 2) (split-at l i false h)
+    ∙ bit-between (take i l) (drop (suc i) l) (bitAt i l))
 
 map-in : (f g : Bits → ℕ) (xs : List Bits) → ((x : Bits) → x ∈ xs → f x ≡ g x) → map f xs ≡ map g xs
 map-in f g [] h = refl
@@ -125,7 +116,7 @@ unfolding symbols number upFrom
 symbols-from zero a = ap (λ (n : ℕ). n ∷ []) (add-zero a)
 symbols-from (suc q) a =
     map-append (λ s. a + number s) (map (_∷_ false) (symbols q)) (map (_∷_ true) (symbols q))
-    ∙ ap₂ _++_ (half false ∙ symbols-from q (a + 0) ∙ ap (λ (n : ℕ). upFrom n (2 ^ q)) (add-zero a)) (half true ∙ symbols-from q (a + 2 ^ q))
+    ∙ ap₂ _++_ (rw (add-zero a) at (half false ∙ symbols-from q (a + 0))) (half true ∙ symbols-from q (a + 2 ^ q))
     ∙ sym (upFrom-append a (2 ^ q) (2 ^ q)) ∙ ap (upFrom a) (sym (two-pow-succ q))
   where
     half : (b : Bool) → map (λ s. a + number s) (map (_∷_ b) (symbols q)) ≡ map (λ s. a + cond b (2 ^ q) 0 + number s) (symbols q)
