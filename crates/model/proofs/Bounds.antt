@@ -15,7 +15,7 @@ use Rattle.model.specs.Metric.{Row, dot, residual, squaredDistance, bitC
 use Rattle.model.specs.Walk.{treeNodes}
 use Rattle.model.specs.Block.{Block, total, allowance, _∈_, Every, Within, BothWithin, RowInRange, RowsInRange, InRange, Shaped}
 use Rattle.model.specs.Block.{widths, mostShare, mostEntry, mostReceived, mostPrior}
-use Rattle.integers.proofs.Magnitude.{natAbs-add, natAbs-sub, natAbs-mul-le}
+use Rattle.integers.proofs.Magnitudes.{natAbs-add, natAbs-sub, natAbs-mul-le}
 use Rattle.model.proofs.Gray.{amplitude-below}
 
 -- The largest amplitude of a symbol of q bits

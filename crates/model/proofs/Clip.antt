@@ -6,7 +6,7 @@ use lib.Dec.{T}
 use lib.IntN.{ℤ, pos, negℤ, _+ℤ_, _-ℤ_, +ℤ-comm, +ℤ-assoc}
 use lib.Signed.{leZ}
 use Rattle.integers.proofs.Order.{leZ-trans, leZ-sub-left, leZ-sub-right}
-use Rattle.model.specs.Soft.{clipped}
+use Rattle.integers.specs.Clip.{clipped}
 
 -- Above B + C + p, the difference from B less p is at least C
 pub limit-high : (b c s : ℕ) (p : ℤ) → T (leZ (pos (b + c) +ℤ p) (pos s)) → T (leZ (pos c) (pos s -ℤ pos b -ℤ p))

@@ -9,7 +9,7 @@ use native.Mathlib.Omega.{arith}
 use lib.ListN.{length}
 use lib.IntN.{ℤ, pos, natAbs, _+ℤ_, _-ℤ_, +ℤ-idr, +ℤ-comm, +ℤ-assoc, -ℤ-+ℤ-cancel}
 use Rattle.model.specs.Constellation.{Bits, amplitude, differences}
-use Rattle.integers.proofs.Magnitude.{natAbs-sub}
+use Rattle.integers.proofs.Magnitudes.{natAbs-sub}
 
 -- A string's place on its axis, from 0 at the lowest amplitude
 unfoldable pub position : Bits → ℕ

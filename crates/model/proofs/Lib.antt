@@ -12,3 +12,4 @@ pub mod Complete
 pub mod Lead
 pub mod Search
 pub mod Demand
+pub mod Readings

@@ -6,9 +6,10 @@ use mathlib.Core.Logic.{_↔_, _⊎_}
 use mathlib.Core.List.{List, [], _∷_, _++_, List·Nodup}
 use lib.ListN.{length, getD}
 use lib.IntN.{ℤ, pos, _-ℤ_}
+use Rattle.integers.specs.Clip.{clipped}
 use Rattle.model.specs.Constellation.{Bits, number}
 use Rattle.model.specs.Metric.{Row, Vector, metricOf, labelBits, bitAt, priorAt}
-use Rattle.model.specs.Soft.{clipped, Report, report}
+use Rattle.model.specs.Soft.{Report, report}
 use Rattle.model.specs.Walk.{walk, cutChildren, leaves}
 use Rattle.model.specs.Block.{Block, vectorOf, Answer, walkedNodes, walkedLabels, total, totalCount, _∈_}
 use Rattle.model.specs.Search.{search, outcome}

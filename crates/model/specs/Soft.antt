@@ -3,7 +3,7 @@ use Prim.Native.Nat.{ℕ, zero, suc, min}
 use mathlib.Core.Bool.{Bool, true, false, cond, Bool·beq}
 use mathlib.Core.List.{List, [], _∷_, map, foldl}
 use lib.IntN.{ℤ, pos, negℤ, _-ℤ_}
-use lib.Signed.{leZ}
+use Rattle.integers.specs.Clip.{clipped}
 use Rattle.model.specs.Constellation.{Bits, number}
 use Rattle.model.specs.Metric.{Vector, metricOf, labelBits, bitAt, priorAt}
 use Rattle.model.specs.Order.{isBefore}
@@ -44,10 +44,6 @@ better v a b = cond (isBefore (v .width) (v .rows) b a) b a
 unfoldable pub pick : Vector → List Bits → Bits
 pick v [] = []
 pick v (l ∷ ls) = foldl (better v) l ls
-
--- "clipped to -C .. C"
-abbrev pub clipped : ℕ → ℤ → ℤ
-clipped c z = cond (leZ (pos c) z) (pos c) (cond (leZ z (negℤ (pos c))) (negℤ (pos c)) z)
 
 -- The soft value: "least metric over labels with the bit 1, less the least with it 0, less the prior, clipped". An empty side has a
 -- value of its own: "no leaf with bit 1 gives" plus it, "none with bit 0" minus it

@@ -1,0 +1,54 @@
+-- What a range test that passed says of the number.
+use Prim.Native.Nat.{ℕ, zero, suc, _≤_}
+use mathlib.Core.Path.{_≡_, refl, sym, _∙_, ap, subst}
+use mathlib.Core.Bool.{Bool, true, false, _&&_, _||_, true≢false}
+use mathlib.Core.List.{List, [], _∷_, List·Memᴰ·head, List·Memᴰ·tail}
+use native.Mathlib.Omega.{arith}
+use lib.Dec.{leb, leb·zero}
+use borrow.Author.Tests.{leb-true}
+use lib.IntN.{ℤ, pos, negsuc, negℤ, natAbs}
+use lib.Signed.{leZ}
+use Rattle.model.specs.Block.{_∈_, widths}
+use Rattle.block.specs.Table.{between, oneOf}
+
+and-left : (a b : Bool) → (a && b) ≡ true → a ≡ true
+and-left true b e = refl
+and-left false b e = e
+
+and-right : (a b : Bool) → (a && b) ≡ true → b ≡ true
+and-right true b e = e
+and-right false b e = absurd (true≢false (sym e))
+
+-- A plain number from a to b
+pub record Plain (a b : ℕ) (z : ℤ) : Type 0 where
+  pub value : ℕ
+  pub is : z ≡ pos value
+  pub low : a ≤ value
+  pub high : value ≤ b
+
+pub between-plain : (a b : ℕ) (z : ℤ) → between (pos a) (pos b) z ≡ true → Plain a b z
+between-plain a b (pos n) e = record { value = n; is = refl; low = leb-true a n (and-left (leb a n) (leb n b) e); high = leb-true n b (and-right (leb a n) (leb n b) e) }
+between-plain a b (negsuc n) e = absurd (true≢false (sym e))
+
+-- A signed one from -b to b
+pub between-signed : (b : ℕ) (z : ℤ) → between (negℤ (pos b)) (pos b) z ≡ true → natAbs z ≤ b
+between-signed b (pos n) e = leb-true n b (and-right (leZ (negℤ (pos b)) (pos n)) (leb n b) e)
+between-signed zero (negsuc n) e = absurd (true≢false (sym e))
+between-signed (suc b) (negsuc n) e = omega (arith, leb-true n b (and-left (leb n b) true e))
+
+-- One of a list
+pub record OneOf (ws : List ℕ) (z : ℤ) : Type 0 where
+  pub value : ℕ
+  pub is : z ≡ pos value
+  pub member : value ∈ ws
+
+pub one-of : (ws : List ℕ) (z : ℤ) → oneOf ws z ≡ true → OneOf ws z
+one-of [] z e = absurd (true≢false (sym e))
+one-of (w ∷ ws) z e = go (between (pos w) (pos w) z) refl e (one-of ws z)
+  where
+    go : (b : Bool) → between (pos w) (pos w) z ≡ b → (b || oneOf ws z) ≡ true → (oneOf ws z ≡ true → OneOf ws z) → OneOf (w ∷ ws) z
+    go true f g ih =
+        let p = between-plain w w z f in
+        let same : p .value ≡ w = omega arith in
+        record { value = p .value; is = p .is; member = List·Memᴰ·head same }
+    go false f g ih = let p = ih g in record { value = p .value; is = p .is; member = List·Memᴰ·tail (p .member) }

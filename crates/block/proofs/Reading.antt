@@ -1,0 +1,117 @@
+-- Reading by cases: what one number that was read does, how numbers go on, and what becomes of the lent list.
+use Prim.Native.Nat.{ℕ, zero, suc, _+_, _-_, _*_, _≤_, _<_}
+use mathlib.Core.Path.{_≡_, refl, sym, _∙_, ap, ap₂, subst}
+use mathlib.Core.Bool.{Bool, true, false, cond}
+use mathlib.Core.List.{List, [], _∷_, _++_, append-assoc}
+use native.Mathlib.Omega.{arith}
+use native.Mathlib.Numerals.{add-one}
+use lib.ListN.{length, getD, set, replicate, drop}
+use lib.Seq.{sets, drop-cons}
+use lib.IntN.{ℤ, pos}
+use Rattle.wire.specs.Reading.{numberAt}
+use Rattle.wire.specs.declared.Number.{Number}
+use Rattle.wire.specs.declared.Number.the-variants.{Value}
+use Rattle.block.specs.Table.{allowed, refusalOf}
+use Rattle.block.specs.Reading.{wholeOf, byNumber, oneAt, Parse, byOne, numbersAt, kindsOf, Got, got, into}
+use Rattle.block.specs.declared.Kind.{Kind}
+use Rattle.block.specs.declared.One.{One}
+use Rattle.block.specs.declared.One.the-variants.{Taken, Turned}
+use Rattle.block.specs.declared.Read.{Read}
+use Rattle.block.specs.declared.Read.the-variants.{Ended, Refused}
+use Rattle.block.specs.declared.Refusal.{Refusal}
+use Rattle.block.specs.declared.Run.{Run}
+
+module _ (k : Kind) (bytes : List ℕ) (at n next : ℕ) (found : numberAt bytes at ≡ Value n next) where
+  -- A number in range is taken, any other turned back
+  pub one-taken : allowed k (wholeOf k n) ≡ true → oneAt k bytes at ≡ Taken (wholeOf k n) next
+  unfolding byNumber
+  one-taken e = rw (found, e)
+
+  pub one-turned : allowed k (wholeOf k n) ≡ false → oneAt k bytes at ≡ Turned (refusalOf k)
+  unfolding byNumber
+  one-turned e = rw (found, e)
+
+module _ (k : Kind) (ks : List Kind) (bytes : List ℕ) (at from : ℕ) (list : List ℤ) where
+  -- A number taken is stored, and the rest goes on from there
+  pub into-taken : (z : ℤ) (next : ℕ) → oneAt k bytes at ≡ Taken z next
+      → into from (numbersAt (k ∷ ks) bytes at) list ≡ into (suc from) (numbersAt ks bytes next) (set list from z)
+  unfolding numbersAt
+  into-taken z next e = rw e
+
+  -- A number turned back ends it
+  pub into-turned : (r : Refusal) → oneAt k bytes at ≡ Turned r → into from (numbersAt (k ∷ ks) bytes at) list ≡ got (Refused r) list
+  unfolding numbersAt
+  into-turned r e = rw e
+
+-- Nothing more to read
+pub into-none : (bytes : List ℕ) (at from : ℕ) (list : List ℤ) → into from (numbersAt [] bytes at) list ≡ got (Ended at) list
+unfolding numbersAt
+into-none bytes at from list = refl
+
+-- A run of `count` numbers of one kind, after k of them
+module _ (kind : Kind) (count : ℕ) (bytes : List ℕ) (place from k : ℕ) (list : List ℤ) where
+  abbrev restOfRun : Got
+  restOfRun = into (from + k) (numbersAt (replicate (count - k) kind) bytes place) list
+
+  pub run-none : count ≤ k → restOfRun ≡ got (Ended place) list
+  run-none h = let e : count - k ≡ 0 = omega arith in rw e (into-none bytes place (from + k) list)
+
+  module _ (h : k < count) where
+    more : count - k ≡ suc (count - (k + 1))
+    more = omega arith
+
+    pub run-taken : (z : ℤ) (next : ℕ) → oneAt kind bytes place ≡ Taken z next
+        → restOfRun ≡ into (from + (k + 1)) (numbersAt (replicate (count - (k + 1)) kind) bytes next) (set list (from + k) z)
+    run-taken z next e =
+        let s : from + (k + 1) ≡ suc (from + k) = omega arith in
+        rw (more, s) (into-taken kind (replicate (count - (k + 1)) kind) bytes place (from + k) list z next e)
+
+    pub run-turned : (r : Refusal) → oneAt kind bytes place ≡ Turned r → restOfRun ≡ got (Refused r) list
+    run-turned r e = rw more (into-turned kind (replicate (count - (k + 1)) kind) bytes place (from + k) list r e)
+
+-- Ended and turned back are two things
+not-both : {at : ℕ} {r : Refusal} {l l′ : List ℤ} → got (Ended at) l ≡ got (Refused r) l′ → ⊥
+not-both {at} {r} e =
+    let p : Ended at ≡ Refused r = ap (λ (g : Got). g .read) e in
+    let z : _≡_ {A = ℕ} 0 1 = cc in
+    omega arith
+
+-- Some numbers and then others: the others go on where the first ended, and are not read where those were turned back
+module _ (b : List Kind) (bytes : List ℕ) where
+  pub append-ended : (a : List Kind) (at from next : ℕ) (list list′ : List ℤ) → got (Ended next) list′ ≡ into from (numbersAt a bytes at) list
+      → into from (numbersAt (a ++ b) bytes at) list ≡ into (from + length a) (numbersAt b bytes next) list′
+  append-ended [] at from next list list′ e =
+      let f = e ∙ into-none bytes at from list in
+      let p : Ended next ≡ Ended at = ap (λ (g : Got). g .read) f in
+      let n : next ≡ at = cc in
+      let l : list′ ≡ list = ap (λ (g : Got). g .list) f in
+      let z : from + 0 ≡ from = omega arith in
+      rw (n, l, z)
+  append-ended (k ∷ a) at from next list list′ e = go (oneAt k bytes at) refl (append-ended a)
+    where
+      shift : suc from + length a ≡ from + suc (length a)
+      shift = omega arith
+
+      go : (o : One) → oneAt k bytes at ≡ o
+          → ((at from next : ℕ) (list list′ : List ℤ) → got (Ended next) list′ ≡ into from (numbersAt a bytes at) list
+          → into from (numbersAt (a ++ b) bytes at) list ≡ into (from + length a) (numbersAt b bytes next) list′)
+          → into from (numbersAt (k ∷ a ++ b) bytes at) list ≡ into (from + suc (length a)) (numbersAt b bytes next) list′
+      go (Taken z place) f ih =
+          into-taken k (a ++ b) bytes at from list z place f
+          ∙ ih place (suc from) next (set list from z) list′ (e ∙ into-taken k a bytes at from list z place f)
+          ∙ ap (λ (n : ℕ). into n (numbersAt b bytes next) list′) shift
+      go (Turned r) f ih = absurd (not-both (e ∙ into-turned k a bytes at from list r f))
+
+  pub append-refused : (a : List Kind) (at from : ℕ) (r : Refusal) (list list′ : List ℤ) → got (Refused r) list′ ≡ into from (numbersAt a bytes at) list
+      → into from (numbersAt (a ++ b) bytes at) list ≡ got (Refused r) list′
+  append-refused [] at from r list list′ e = absurd (not-both (sym (e ∙ into-none bytes at from list)))
+  append-refused (k ∷ a) at from r list list′ e = go (oneAt k bytes at) refl (append-refused a)
+    where
+      go : (o : One) → oneAt k bytes at ≡ o
+          → ((at from : ℕ) (r : Refusal) (list list′ : List ℤ) → got (Refused r) list′ ≡ into from (numbersAt a bytes at) list
+          → into from (numbersAt (a ++ b) bytes at) list ≡ got (Refused r) list′)
+          → into from (numbersAt (k ∷ a ++ b) bytes at) list ≡ got (Refused r) list′
+      go (Taken z place) f ih =
+          into-taken k (a ++ b) bytes at from list z place f
+          ∙ ih place (suc from) r (set list from z) list′ (e ∙ into-taken k a bytes at from list z place f)
+      go (Turned s) f ih = into-turned k (a ++ b) bytes at from list s f ∙ sym (e ∙ into-turned k a bytes at from list s f)

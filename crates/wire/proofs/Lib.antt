@@ -1,0 +1,4 @@
+pub mod Folding
+pub mod Writing
+pub mod Reading
+pub mod RoundTrip

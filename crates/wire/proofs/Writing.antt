@@ -1,0 +1,145 @@
+-- The groups of a number, one at a time: what is left after a group is 128 times smaller, so that four groups hold 28 bits. And a run of
+-- bytes put into a buffer: one run after the other is the joined run.
+use Prim.Native.Nat.{ℕ, zero, suc, _+_, _*_, _/_, _%_, _^_, _<_, _≤_}
+use mathlib.Core.Path.{_≡_, refl, ap, _∙_}
+use mathlib.Core.Bool.{Bool, true, false, cond}
+use mathlib.Core.List.{List, [], _∷_, _++_}
+use native.Mathlib.Nat.{div-lt-iff-lt-mul, mod-lt}
+use native.Mathlib.Omega.{arith}
+use borrow.Author.Tests.{ltb-true, lt-ltb, le-ltb}
+use lib.Bits.{bitAnd, bitOr, and-mask, or-shifted-r}
+use lib.Dec.{ltb, lit<}
+use lib.ListN.{length, take, drop, set}
+use lib.Pow.{pow-add}
+use lib.Seq.{length-sets, sets-eq}
+use Rattle.wire.specs.Reading.{Bytes}
+use Rattle.wire.specs.Writing.{groupsOf, bytesOf, put}
+
+-- A group more counts for 128
+pub weight : (g : ℕ) → 2 ^ (7 * suc g) ≡ 2 ^ (7 * g) * 128
+weight g = let e : 7 * suc g ≡ 7 * g + 7 = omega arith in rw (e, pow-add 2 (7 * g) 7)
+
+module _ (g n : ℕ) where
+  -- A number below 128 is one group
+  pub groupsOf-last : n < 128 → groupsOf (suc g) n ≡ n ∷ []
+  unfolding groupsOf
+  groupsOf-last h = rw (lt-ltb n 128 h)
+
+  -- Any other is its low seven bits with the high bit, and then the groups of what is left, for which there is room
+  pub groupsOf-more : 128 ≤ n → groupsOf (suc g) n ≡ (n % 128 + 128) ∷ groupsOf g (n / 128)
+  unfolding groupsOf
+  groupsOf-more h = rw (le-ltb n 128 h)
+
+  pub left-below : n < 2 ^ (7 * suc g) → n / 128 < 2 ^ (7 * g)
+  left-below b = div-lt-iff-lt-mul (lit< tt) .1 (rw weight at b)
+
+  pub left-room : n < 2 ^ (7 * suc g) → 128 ≤ n → 0 < g
+  left-room b h = go g b
+    where
+      go : (g : ℕ) → n < 2 ^ (7 * suc g) → 0 < g
+      go zero b = absurd (omega arith)
+      go (suc g) b = omega arith
+
+-- One to g groups
+pub groupsOf-some : (g n : ℕ) → 0 < length (groupsOf (suc g) n)
+unfolding groupsOf
+groupsOf-some g n = go (ltb n 128)
+  where
+    go : (t : Bool) → 0 < length (cond t (n ∷ []) ((n % 128 + 128) ∷ groupsOf g (n / 128)))
+    go true = omega arith
+    go false = omega arith
+
+pub groupsOf-most : (g n : ℕ) → length (groupsOf g n) ≤ g
+unfolding groupsOf
+groupsOf-most zero n = omega arith
+groupsOf-most (suc g) n = go (ltb n 128) (groupsOf-most g (n / 128))
+  where
+    go : (t : Bool) → length (groupsOf g (n / 128)) ≤ g → length (cond t (n ∷ []) ((n % 128 + 128) ∷ groupsOf g (n / 128))) ≤ suc g
+    go true h = omega arith
+    go false h = omega arith
+
+-- Each group is a byte
+bytes-cons : (b : ℕ) (l : List ℕ) → b < 256 → Bytes l → Bytes (b ∷ l)
+bytes-cons b l h k zero = h
+bytes-cons b l h k (suc i) = k i
+
+bytes-nil : Bytes []
+bytes-nil i = omega arith
+
+pub groupsOf-bytes : (g n : ℕ) → Bytes (groupsOf g n)
+unfolding groupsOf
+groupsOf-bytes zero n = bytes-nil
+groupsOf-bytes (suc g) n = go (ltb n 128) refl (groupsOf-bytes g (n / 128))
+  where
+    go : (t : Bool) → ltb n 128 ≡ t → Bytes (groupsOf g (n / 128)) → Bytes (cond t (n ∷ []) ((n % 128 + 128) ∷ groupsOf g (n / 128)))
+    go true e h = bytes-cons n [] (omega (arith, ltb-true n 128 e)) bytes-nil
+    go false e h = bytes-cons (n % 128 + 128) (groupsOf g (n / 128)) (omega arith) h
+
+-- A number has one to four bytes, one if it is below 128
+pub bytesOf-some : (n : ℕ) → 1 ≤ length (bytesOf n)
+unfolding bytesOf
+bytesOf-some n = groupsOf-some 3 n
+
+pub bytesOf-most : (n : ℕ) → length (bytesOf n) ≤ 4
+unfolding bytesOf
+bytesOf-most n = groupsOf-most 4 n
+
+pub bytesOf-one : (n : ℕ) → n < 128 → bytesOf n ≡ n ∷ []
+unfolding bytesOf
+bytesOf-one n h = groupsOf-last 3 n h
+
+pub bytesOf-bytes : (n : ℕ) → Bytes (bytesOf n)
+unfolding bytesOf
+bytesOf-bytes n = groupsOf-bytes 4 n
+
+-- A run that is put leaves the buffer's length
+pub put-length : (l : List ℕ) (at : ℕ) (bs : List ℕ) → length (put l at bs) ≡ length l
+unfolding put
+put-length l at bs = length-sets l at bs
+
+-- No byte changes nothing
+pub put-nil : (l : List ℕ) (at : ℕ) → put l at [] ≡ l
+unfolding put
+put-nil l at = refl
+
+-- The first byte, and then the others
+pub put-cons : (l : List ℕ) (at b : ℕ) (bs : List ℕ) → put l at (b ∷ bs) ≡ put (set l at b) (at + 1) bs
+unfolding put
+put-cons l at b bs = let e : suc at ≡ at + 1 = omega arith in rw e
+
+-- One run, and then another where it ended
+pub put-append : (bs cs l : List ℕ) (at : ℕ) → put l at (bs ++ cs) ≡ put (put l at bs) (at + length bs) cs
+unfolding put
+put-append [] cs l at = let e : at + 0 ≡ at = omega arith in rw e
+put-append (b ∷ bs) cs l at =
+    let e : at + suc (length bs) ≡ suc at + length bs = omega arith in rw e (put-append bs cs (set l at b) (suc at))
+
+-- What was before the run, the run, and what was behind it
+pub put-is : (l : List ℕ) (at : ℕ) (bs : List ℕ) → at + length bs ≤ length l → put l at bs ≡ take at l ++ bs ++ drop (at + length bs) l
+unfolding put
+put-is l at bs h = sets-eq bs l at h
+
+-- From the start on: the run, and what was behind it
+pub put-start : (l bs : List ℕ) → length bs ≤ length l → put l 0 bs ≡ bs ++ drop (length bs) l
+put-start l bs h = let e : 0 + length bs ≡ length bs = omega arith in put-is l 0 bs (omega arith) ∙ ap (λ (k : ℕ). bs ++ drop k l) e
+
+-- Seven bits masked out, with the high bit set
+high-set : (n : ℕ) → bitOr (bitAnd n 127) 128 ≡ n % 128 + 128
+high-set n = rw (and-mask n 7) (or-shifted-r 1 7 (n % 128) (mod-lt n (lit< tt)) ∙ (omega arith))
+
+-- One turn of the writer, with room for a group more than g: a group is set, and the groups of what is left follow
+module _ (place g n : ℕ) where
+  pub turn-ends : 128 ≤ n → place + length (groupsOf (suc g) n) ≡ place + 1 + length (groupsOf g (n / 128))
+  turn-ends h = rw (groupsOf-more g n h) (omega arith)
+
+  pub turn-leaves : (l : List ℕ) → 128 ≤ n
+      → put l place (groupsOf (suc g) n) ≡ put (set l place (bitOr (bitAnd n 127) 128)) (place + 1) (groupsOf g (n / 128))
+  turn-leaves l h = rw (groupsOf-more g n h, high-set n) (put-cons l place _ _)
+
+  -- Its end: the last group is set
+  pub last-ends : n < 128 → place + length (groupsOf (suc g) n) ≡ place + 1
+  last-ends h = rw (groupsOf-last g n h)
+
+  pub last-leaves : (l : List ℕ) → n < 128 → put l place (groupsOf (suc g) n) ≡ set l place n
+  unfolding put
+  last-leaves l h = rw (groupsOf-last g n h)
