@@ -6,10 +6,10 @@ use mathlib.Core.Logic.{_↔_}
 use mathlib.Core.Bool.{Bool, true, false, cond}
 use mathlib.Core.List.{List, [], _∷_, _++_, map, map-map, map-append}
 use mathlib.Core.List.{List·Memᴰ·head, List·Memᴰ·tail}
-use native.Mathlib.Nat.{two-pow-succ, zero-add, add-zero, suc-add, add-suc, mod-eq-of-lt, mul-lt-mul-of-pos-right, lt-of-mul-lt-mul-right}
+use native.Mathlib.Nat.{two-pow-succ, zero-add, add-zero, suc-add, add-suc, add-comm, mod-lt, mod-eq-of-lt, mul-lt-mul-of-pos-right, lt-of-mul-lt-mul-right}
 use native.Mathlib.Omega.{arith}
 use lib.ListN.{length, take, drop, length-append, length-drop}
-use lib.Pow.{pow-add, pow-pos, high, mod-pow-add}
+use lib.Pow.{pow-add, pow-pos, high, mod-pow-add, shr-shr}
 use lib.Dec.{eqb}
 use lib.Seq.{split-at}
 use Rattle.model.specs.Constellation.{Bits, number, bitsOf, symbols}
@@ -125,3 +125,19 @@ symbols-from (suc q) a =
 -- The symbols of q bits have the numbers from 0 to 2 ^ q - 1, in this order
 pub symbols-numbers : (q : ℕ) → map number (symbols q) ≡ upFrom 0 (2 ^ q)
 symbols-numbers q = map-in number (λ s. 0 + number s) (symbols q) (λ s h. omega arith) ∙ symbols-from q 0
+
+-- The first a bits of a number, and the last b: what a shift and a mask read off it
+pub take-bits : (a b n : ℕ) → take a (bitsOf (a + b) n) ≡ bitsOf a (n / 2 ^ b)
+unfolding bitsOf
+take-bits zero b n = refl
+take-bits (suc a) b n =
+    rw suc-add
+    (ap₂ _∷_ (ap (λ (x : ℕ). eqb (x % 2) 1) (sym (shr-shr n b a ∙ ap (λ (x : ℕ). n / 2 ^ x) (add-comm b a)))) (take-bits a b n))
+
+pub drop-bits : (a b n : ℕ) → drop a (bitsOf (a + b) n) ≡ bitsOf b n
+unfolding bitsOf
+drop-bits zero b n = let e : 0 + b ≡ b = omega arith in rw e
+drop-bits (suc a) b n = rw suc-add (drop-bits a b n)
+
+pub low-bits : (b n : ℕ) → bitsOf b (n % 2 ^ b) ≡ bitsOf b n
+low-bits b n = number-injective _ _ (length-bitsOf b (n % 2 ^ b) ∙ sym (length-bitsOf b n)) (number-bitsOf b (n % 2 ^ b) (mod-lt n (pow-pos b)) ∙ sym (number-bitsOf-mod b n))
