@@ -1,0 +1,27 @@
+-- What is said of an accepted record: how many whole numbers it has, and their checksum.
+use Prim.Native.Nat.{ℕ, zero, suc, _+_, _*_, _%_, min}
+use mathlib.Core.List.{List}
+use lib.IntN.{ℤ, pos, natAbs, _+ℤ_}
+use lib.ListN.{getD}
+use Rattle.block.specs.Reading.{vectorSize}
+
+-- M, Q or N, and no more than the most
+abbrev pub sizeAt : List ℤ → ℕ → ℕ → ℕ
+sizeAt numbers i most = min (natAbs (getD numbers i (pos 0))) most
+
+-- How many whole numbers a record has: M, Q, N, C and D, and those of N vectors
+abbrev pub countOf : List ℤ → ℕ
+countOf numbers = 5 + sizeAt numbers 2 64 * vectorSize (sizeAt numbers 0 4) (sizeAt numbers 1 6)
+
+-- A number moved up by 2 to the 31
+abbrev pub moved : ℤ → ℕ
+moved z = natAbs (z +ℤ pos 2147483648)
+
+-- The checksum with one number more: a polynomial in 1,000,003, the first number highest, modulo a prime
+abbrev pub mixed : ℕ → ℤ → ℕ
+mixed sum z = (sum * 1000003 + moved z) % 4294967291
+
+-- The checksum of the first numbers of a list, as many as n
+unfoldable pub checksumOf : List ℤ → ℕ → ℕ
+checksumOf numbers zero = 0
+checksumOf numbers (suc n) = mixed (checksumOf numbers n) (getD numbers n (pos 0))

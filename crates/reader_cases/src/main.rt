@@ -1,0 +1,135 @@
+// Runs the record reader on test records. Standard input has them one after another, each behind its length: two bytes, the low one
+// first. For each a line is written: `refused` and the refusal's number, or `accepted`, how many whole numbers the record has and their
+// checksum. What the lines must be comes from a second reader, in Rust.
+use block::Read;
+use libc::STDIN_FILENO;
+use libc::STDOUT_FILENO;
+ghost use mathlib.Core.Path.{_≡_};
+ghost use Prim.Native.Nat.{_<_, _≤_, min};
+ghost use lib.IntN.{natAbs};
+ghost use lib.ListN.{length};
+ghost use Rattle.reader_cases.specs.Cases.{caseAt, Within};
+ghost use Rattle.reader_cases.specs.Numbers.{countOf, moved, mixed, checksumOf};
+
+// The bytes of a test record, from one place of the input up to another; or the input ends before.
+enum Case {
+    Bytes(usize, usize),
+    CutOff,
+}
+
+// The test record whose length stands at a place of the input.
+fn case_at(input: &[u8], at: usize) -> Case
+    requires { ⌜ at < length (now input) ⌝ }
+    ensures { λ r. ⌜ (r ≡ caseAt (now (input .entry)) at) × Within at (length (now (input .entry))) r ⌝ }
+{
+    let high = at + 1;
+    if input.len() <= high {
+        return Case::CutOff;
+    }
+    let length = input[at] as usize + 256 * (input[high] as usize);
+    let start = at + 2;
+    if input.len() - start < length {
+        return Case::CutOff;
+    }
+    Case::Bytes(start, start + length)
+}
+
+// M, Q or N of an accepted record. It is at most what document 01 allows; that it is no more is seen to here too, so that this program
+// rests on nothing that is proved of the reader.
+fn size(z: i32, most: usize) -> usize
+    ensures { λ r. ⌜ r ≡ min (natAbs z) most ⌝ }
+{
+    let size = integers::magnitude(z as i64) as usize;
+    if size < most { size } else { most }
+}
+
+// How many whole numbers a record has, by its M, Q and N.
+fn count(numbers: &[i32; 3077]) -> usize
+    ensures { λ r. ⌜ (r ≡ countOf (now (numbers .entry))) × (r ≤ 3077) ⌝ }
+{
+    let m = size(numbers[0], 4);
+    let q = size(numbers[1], 6);
+    let n = size(numbers[2], 64);
+    5 + n * (m * m + 2 * m + m * q)
+}
+
+// A whole number moved up by 2 to the 31, so that it is not negative.
+fn move_up(z: i32) -> u64
+    ensures { λ r. ⌜ (r ≡ moved z) × (r < 4294967296) ⌝ }
+{
+    (z as i64 + 2147483648) as u64
+}
+
+// The checksum with one whole number more.
+fn mix(sum: u64, z: i32) -> u64
+    requires { ⌜ sum < 4294967291 ⌝ }
+    ensures { λ r. ⌜ (r ≡ mixed sum z) × (r < 4294967291) ⌝ }
+{
+    (sum * 1000003 + move_up(z)) % 4294967291
+}
+
+// The checksum of the first numbers, as many as n.
+fn checksum(numbers: &[i32; 3077], n: usize) -> u64
+    requires { ⌜ n ≤ 3077 ⌝ }
+    ensures { λ r. ⌜ r ≡ checksumOf (now (numbers .entry)) n ⌝ }
+{
+    let mut sum: u64 = 0;
+    let mut i = 0;
+    while i < n {
+        sum = mix(sum, numbers[i]);
+        i += 1;
+    }
+    sum
+}
+
+fn print_refused(number: u32) {
+    io::write_all(STDOUT_FILENO, b"refused ");
+    io::print_decimal(STDOUT_FILENO, number as u64);
+    io::write_all(STDOUT_FILENO, b"\n");
+}
+
+fn print_accepted(count: usize, sum: u64) {
+    io::write_all(STDOUT_FILENO, b"accepted ");
+    io::print_decimal(STDOUT_FILENO, count as u64);
+    io::write_all(STDOUT_FILENO, b" ");
+    io::print_decimal(STDOUT_FILENO, sum);
+    io::write_all(STDOUT_FILENO, b"\n");
+}
+
+// Reads one test record and writes its line.
+fn run(record: &[u8], numbers: &mut [i32; 3077])
+    requires { ⌜ length (now numbers) ≡ 3077 ⌝ }
+    ensures { λ _. ⌜ length (now (numbers .exit)) ≡ 3077 ⌝ }
+{
+    match block::read_whole(record, numbers) {
+        Read::Ended(_) => {
+            let n = count(numbers);
+            print_accepted(n, checksum(numbers, n));
+        }
+        Read::Refused(refusal) => print_refused(block::refusal_number(refusal)),
+    }
+}
+
+// Reads each test record of the input. The numbers of one stay in the list for the next, which must not see them.
+fn run_all(input: &[u8]) {
+    let mut numbers = [0i32; 3077];
+    let mut at = 0;
+    while at < input.len() {
+        match case_at(input, at) {
+            Case::Bytes(start, end) => {
+                run(&input[start..end], &mut numbers);
+                at = end;
+            }
+            Case::CutOff => {
+                io::write_all(STDOUT_FILENO, b"cut off\n");
+                return;
+            }
+        }
+    }
+}
+
+fn main() {
+    let mut input = [0u8; 262144];
+    let n = io::read_full(STDIN_FILENO, &mut input);
+    run_all(&input[..n]);
+}
