@@ -4,3 +4,9 @@ pub mod Reading
 pub mod Runs
 pub mod Parts
 pub mod Opening
+pub mod Places
+pub mod Flat
+pub mod Vectors
+pub mod Accepted
+pub mod Size
+pub mod Readings

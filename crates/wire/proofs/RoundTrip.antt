@@ -7,7 +7,7 @@ use mathlib.Core.List.{List, [], _∷_, _++_}
 use native.Mathlib.Omega.{arith}
 use borrow.Author.Tests.{ltb-true, ltb-false, eqb-true, eqb-false}
 use lib.Dec.{ltb, eqb}
-use lib.IntN.{ℤ, pos, negsuc}
+use lib.IntN.{ℤ, pos, negsuc, natAbs}
 use lib.ListN.{length, take, drop, length-drop, take-append-drop}
 use lib.Pow.{pow-pos}
 use lib.Seq.{drop-append-seam, drop-drop, getD-drop}
@@ -33,6 +33,15 @@ folded-unfolded n = go (eqb (n % 2) 0) refl
     go : (t : Bool) → eqb (n % 2) 0 ≡ t → folded (cond t (pos (n / 2)) (negsuc (n / 2))) ≡ n
     go true e = omega (arith, eqb-true (n % 2) 0 e)
     go false e = let odd = eqb-false (n % 2) 0 e in omega arith
+
+-- A number is at most twice the magnitude that it unfolds to
+pub unfolded-below : (n b : ℕ) → natAbs (unfolded n) ≤ b → n ≤ 2 * b
+unfolding folded
+unfolded-below n b h = go (unfolded n) h (folded-unfolded n)
+  where
+    go : (z : ℤ) → natAbs z ≤ b → folded z ≡ n → n ≤ 2 * b
+    go (pos m) k e = omega arith
+    go (negsuc m) k e = omega arith
 
 -- Reading what was written, at most g groups of it
 read-groups : (g : ℕ) (first : Bool) (at n : ℕ) (after : List ℕ) (t : Bool) → ltb n 128 ≡ t → 0 < g → n < 2 ^ (7 * g)
@@ -150,6 +159,11 @@ module _ (l : List ℕ) (at : ℕ) where
       go (Value n next) e = let r = found n next e in (r .small, inside n next r)
       go Short e = tt
       go Malformed e = tt
+
+  -- Whatever is read as n has as many bytes as writing n makes
+  pub read-ends : (n next : ℕ) → numberAt l at ≡ Value n next → next ≡ at + length (bytesOf n)
+  unfolding bytesOf
+  read-ends n next e = found n next e .ends
 
   -- Whatever is read as n is the bytes that writing n makes
   pub read-is-written : (n next : ℕ) → Bytes l → numberAt l at ≡ Value n next

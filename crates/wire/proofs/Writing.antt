@@ -58,6 +58,18 @@ groupsOf-most (suc g) n = go (ltb n 128) (groupsOf-most g (n / 128))
     go true h = omega arith
     go false h = omega arith
 
+-- As few as the number's size calls for
+groupsOf-few : (f g n : ℕ) → n < 2 ^ (7 * suc g) → length (groupsOf f n) ≤ suc g
+unfolding groupsOf
+groupsOf-few zero g n h = omega arith
+groupsOf-few (suc f) zero n h = rw (groupsOf-last f n h) (omega arith)
+groupsOf-few (suc f) (suc g) n h = go (ltb n 128) (groupsOf-few f g (n / 128) (left-below (suc g) n h))
+  where
+    go : (t : Bool) → length (groupsOf f (n / 128)) ≤ suc g
+        → length (cond t (n ∷ []) ((n % 128 + 128) ∷ groupsOf f (n / 128))) ≤ suc (suc g)
+    go true k = omega arith
+    go false k = omega arith
+
 -- Each group is a byte
 bytes-cons : (b : ℕ) (l : List ℕ) → b < 256 → Bytes l → Bytes (b ∷ l)
 bytes-cons b l h k zero = h
@@ -87,6 +99,12 @@ bytesOf-most n = groupsOf-most 4 n
 pub bytesOf-one : (n : ℕ) → n < 128 → bytesOf n ≡ n ∷ []
 unfolding bytesOf
 bytesOf-one n h = groupsOf-last 3 n h
+
+-- At most g bytes, if it is below 2 to the 7 g
+pub bytesOf-short : (g n : ℕ) → 1 ≤ g → n < 2 ^ (7 * g) → length (bytesOf n) ≤ g
+unfolding bytesOf
+bytesOf-short zero n p h = absurd (omega arith)
+bytesOf-short (suc g) n p h = groupsOf-few 4 g n h
 
 pub bytesOf-bytes : (n : ℕ) → Bytes (bytesOf n)
 unfolding bytesOf

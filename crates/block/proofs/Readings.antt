@@ -1,0 +1,50 @@
+-- Two computed readings: document 01's listing record says its block, and where each number of a vector of three rows belongs.
+use Prim.Native.Nat.{ℕ}
+use mathlib.Core.Path.{_≡_, refl}
+use mathlib.Core.List.{List, [], _∷_}
+use lib.IntN.{ℤ, pos, negsuc}
+use Rattle.model.specs.Constellation.{Complex}
+use Rattle.model.specs.Metric.{Row}
+use Rattle.model.specs.Soft.{upFrom}
+use Rattle.wire.specs.Reading.{numberAt, groups, above, lastGroup}
+use Rattle.wire.specs.Folding.{unfolded}
+use Rattle.block.specs.Reading.{byNumber, numbersAt, kindsOf, runsOf, matrixRuns, vectorsAt, sizedAt, recordAt, startsWith, readRecord}
+use Rattle.block.specs.Contents.{complexes, rowsFrom, rowsOf, blockOf}
+
+-- A complex number
+abbrev c : ℤ → ℤ → Complex
+c a b = record { re = a; im = b }
+
+-- "43 42 52 31 02 01 02 0A 03, then twice 01 02 00 01 02 00 01 00 00 00"
+abbrev listing : List ℕ
+listing =
+    0x43 ∷ 0x42 ∷ 0x52 ∷ 0x31 ∷ 0x02 ∷ 0x01 ∷ 0x02 ∷ 0x0A ∷ 0x03 ∷ 0x01 ∷ 0x02 ∷ 0x00 ∷ 0x01 ∷ 0x02 ∷ 0x00 ∷ 0x01 ∷ 0x00 ∷ 0x00 ∷ 0x00
+    ∷ 0x01 ∷ 0x02 ∷ 0x00 ∷ 0x01 ∷ 0x02 ∷ 0x00 ∷ 0x01 ∷ 0x00 ∷ 0x00 ∷ 0x00 ∷ []
+
+-- "R rows (1, 1), (0, 1), y = (1, -1), priors 0"
+abbrev rows : List Row
+rows =
+    record { diagonal = 1; right = c (pos 1) (pos 0) ∷ []; received = c (pos 1) (pos 0); priors = pos 0 ∷ [] }
+    ∷ record { diagonal = 1; right = []; received = c (negsuc 0) (pos 0); priors = pos 0 ∷ [] }
+    ∷ []
+
+-- The listing record says this block
+pub listing-block : blockOf (readRecord listing .numbers)
+    ≡ record { streams = 2; width = 1; clip = 10; share = 3; vectors = rows ∷ rows ∷ [] }
+unfolding blockOf readRecord recordAt sizedAt vectorsAt numbersAt kindsOf runsOf matrixRuns byNumber numberAt groups above
+    lastGroup unfolded startsWith rowsOf rowsFrom complexes upFrom
+listing-block = refl
+
+abbrev numbers : List ℤ
+numbers =
+    pos 1 ∷ pos 2 ∷ pos 3 ∷ pos 4 ∷ pos 5 ∷ pos 6 ∷ pos 7 ∷ pos 8 ∷ pos 9 ∷ pos 11 ∷ pos 12 ∷ pos 13 ∷ pos 14 ∷ pos 15 ∷ pos 16
+    ∷ pos 21 ∷ pos 22 ∷ pos 23 ∷ pos 24 ∷ pos 25 ∷ pos 26 ∷ []
+
+-- A vector of three rows, two bits a symbol: each number has a value of its own
+pub three-rows : rowsOf 3 2 numbers
+    ≡ record { diagonal = 1; right = c (pos 2) (pos 3) ∷ c (pos 4) (pos 5) ∷ []; received = c (pos 11) (pos 12); priors = pos 21 ∷ pos 22 ∷ [] }
+    ∷ record { diagonal = 6; right = c (pos 7) (pos 8) ∷ []; received = c (pos 13) (pos 14); priors = pos 23 ∷ pos 24 ∷ [] }
+    ∷ record { diagonal = 9; right = []; received = c (pos 15) (pos 16); priors = pos 25 ∷ pos 26 ∷ [] }
+    ∷ []
+unfolding rowsOf rowsFrom complexes
+three-rows = refl

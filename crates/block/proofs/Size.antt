@@ -1,0 +1,153 @@
+-- How long an accepted record can be. A number of each kind has at most so many groups; their sum over a record's kinds rises with M, Q and
+-- N, so it is computed once, at the largest that document 01 has.
+use Prim.Native.Nat.{ℕ, zero, suc, _+_, _*_, _^_, _≤_, _<_}
+use mathlib.Core.Path.{_≡_, refl}
+use mathlib.Core.Bool.{Bool, true, false, cond}
+use mathlib.Core.List.{List, [], _∷_, _++_}
+use native.Mathlib.Omega.{arith}
+use native.Mathlib.Nat.{suc-mul, mul-suc, mul-le-mul}
+use lib.ListN.{length}
+use lib.IntN.{ℤ, pos, negℤ}
+use Rattle.wire.specs.Reading.{numberAt}
+use Rattle.wire.specs.Writing.{bytesOf}
+use Rattle.wire.specs.Folding.{unfolded}
+use Rattle.wire.specs.declared.Number.{Number}
+use Rattle.wire.specs.declared.Number.the-variants.{Value, Short, Malformed}
+use Rattle.wire.proofs.Writing.{bytesOf-short, bytesOf-most}
+use Rattle.wire.proofs.RoundTrip.{unfolded-below, read-ends}
+use Rattle.model.specs.Block.{widths, mostStreams, mostVectors, mostEntry, mostReceived, mostPrior}
+use Rattle.model.proofs.Bounds.{width-small}
+use Rattle.block.specs.Table.{between, allowed, refusalOf}
+use Rattle.block.specs.Reading.{wholeOf, byNumber, oneAt, byOne, numbersAt, run, kindsOf, matrixRuns, runsOf, countAt, readRecord}
+use Rattle.block.specs.Contents.{blockOf, vectorKinds, recordKinds}
+use Rattle.block.specs.declared.Kind.{Kind}
+use Rattle.block.specs.declared.Kind.the-variants.{StreamCount, SymbolWidth, VectorCount, ClipLevel, NodeShare}
+use Rattle.block.specs.declared.Kind.the-variants.{DiagonalEntry, RightPart, ReceivedPart, BitPrior}
+use Rattle.block.specs.declared.One.{One}
+use Rattle.block.specs.declared.One.the-variants.{Taken, Turned}
+use Rattle.block.specs.declared.Read.the-variants.{Ended}
+use Rattle.block.specs.declared.Run.{Run}
+use Rattle.block.specs.declared.Part.the-variants.{Vector}
+use Rattle.block.proofs.Ranges.{between-plain, between-signed, one-of}
+use Rattle.block.proofs.Parts.{plain-most, width-most}
+use Rattle.block.proofs.Places.{vectors-count}
+use Rattle.block.proofs.Flat.{accepted-ends}
+use Rattle.block.proofs.Accepted.{accepted-in-range}
+
+-- The most bytes that a number of a kind has
+abbrev pub mostBytes : Kind → ℕ
+mostBytes StreamCount = 1
+mostBytes SymbolWidth = 1
+mostBytes VectorCount = 1
+mostBytes ClipLevel = 4
+mostBytes (NodeShare m) = 4
+mostBytes DiagonalEntry = 2
+mostBytes RightPart = 2
+mostBytes ReceivedPart = 3
+mostBytes BitPrior = 3
+
+-- A plain number up to b, and a folded one from -b to b, in g groups
+module _ (g b n : ℕ) (some : 1 ≤ g) where
+  plain-bytes : (a : ℕ) → b < 2 ^ (7 * g) → between (pos a) (pos b) (pos n) ≡ true → length (bytesOf n) ≤ g
+  plain-bytes a h e = let most = plain-most (between-plain a b (pos n) e) in bytesOf-short g n some (omega arith)
+
+  folded-bytes : 2 * b < 2 ^ (7 * g) → between (negℤ (pos b)) (pos b) (unfolded n) ≡ true → length (bytesOf n) ≤ g
+  folded-bytes h e = let most = unfolded-below n b (between-signed b (unfolded n) e) in bytesOf-short g n some (omega arith)
+
+-- A number in range has no more bytes than its kind
+kind-bytes : (k : Kind) (n : ℕ) → allowed k (wholeOf k n) ≡ true → length (bytesOf n) ≤ mostBytes k
+kind-bytes StreamCount n e = plain-bytes 1 mostStreams n (omega arith) 1 (omega arith) e
+kind-bytes SymbolWidth n e = let most = width-most (one-of widths (pos n) e) in bytesOf-short 1 n (omega arith) (omega arith)
+kind-bytes VectorCount n e = plain-bytes 1 mostVectors n (omega arith) 1 (omega arith) e
+kind-bytes ClipLevel n e = bytesOf-most n
+kind-bytes (NodeShare m) n e = bytesOf-most n
+kind-bytes DiagonalEntry n e = plain-bytes 2 mostEntry n (omega arith) 1 (omega arith) e
+kind-bytes RightPart n e = folded-bytes 2 mostEntry n (omega arith) (omega arith) e
+kind-bytes ReceivedPart n e = folded-bytes 3 mostReceived n (omega arith) (omega arith) e
+kind-bytes BitPrior n e = folded-bytes 3 mostPrior n (omega arith) (omega arith) e
+
+-- One number that was taken
+one-size : (k : Kind) (bytes : List ℕ) (at next : ℕ) (z : ℤ) → oneAt k bytes at ≡ Taken z next → next ≤ at + mostBytes k
+unfolding byNumber
+one-size k bytes at next z e = go (numberAt bytes at) refl e
+  where
+    ranged : (n place : ℕ) → numberAt bytes at ≡ Value n place → (b : Bool) → allowed k (wholeOf k n) ≡ b
+        → cond b (Taken (wholeOf k n) place) (Turned (refusalOf k)) ≡ Taken z next → next ≤ at + mostBytes k
+    ranged n place f true a g = let same : place ≡ next = cc in omega (arith, read-ends bytes at n place f, kind-bytes k n a)
+    ranged n place f false a g = let h : _≡_ {A = ℕ} 0 1 = cc in absurd (omega arith)
+
+    go : (x : Number) → numberAt bytes at ≡ x → byNumber k x ≡ Taken z next → next ≤ at + mostBytes k
+    go (Value n place) f g = ranged n place f (allowed k (wholeOf k n)) refl g
+    go Short f g = let h : _≡_ {A = ℕ} 0 1 = cc in absurd (omega arith)
+    go Malformed f g = let h : _≡_ {A = ℕ} 0 1 = cc in absurd (omega arith)
+
+-- The most bytes of numbers of some kinds
+unfoldable pub mostOf : List Kind → ℕ
+mostOf [] = 0
+mostOf (k ∷ ks) = mostBytes k + mostOf ks
+
+-- Numbers that were read whole
+pub numbers-size : (ks : List Kind) (bytes : List ℕ) (at next : ℕ) → numbersAt ks bytes at .read ≡ Ended next → next ≤ at + mostOf ks
+unfolding numbersAt mostOf
+numbers-size [] bytes at next e = let same : at ≡ next = cc in omega arith
+numbers-size (k ∷ ks) bytes at next e = go (oneAt k bytes at) refl e (λ place. numbers-size ks bytes place next)
+  where
+    go : (o : One) → oneAt k bytes at ≡ o → byOne (numbersAt ks bytes) o .read ≡ Ended next
+        → ((place : ℕ) → numbersAt ks bytes place .read ≡ Ended next → next ≤ place + mostOf ks) → next ≤ at + (mostBytes k + mostOf ks)
+    go (Taken z place) f g ih = omega (arith, one-size k bytes at place z f, ih place g)
+    go (Turned r) f g ih = let h : _≡_ {A = ℕ} 0 1 = cc in absurd (omega arith)
+
+-- The most bytes of two lists, of a run, of R, of a vector, of n vectors, of a record behind the opening
+most-append : (a b : List Kind) → mostOf (a ++ b) ≡ mostOf a + mostOf b
+unfolding mostOf
+most-append [] b = omega arith
+most-append (k ∷ a) b = omega (arith, most-append a b)
+
+most-run : (k : Kind) (n : ℕ) (rs : List Run) → mostOf (kindsOf (run k n ∷ rs)) ≡ n * mostBytes k + mostOf (kindsOf rs)
+unfolding mostOf kindsOf
+most-run k zero rs = omega arith
+most-run k (suc n) rs = omega (arith, most-run k n rs, suc-mul n (mostBytes k))
+
+most-matrix : (m : ℕ) (rest : List Run) → mostOf (kindsOf (matrixRuns m ++ rest)) ≡ 2 * (m * m) + mostOf (kindsOf rest)
+unfolding matrixRuns
+most-matrix zero rest = omega arith
+most-matrix (suc m) rest =
+    let below = matrixRuns m ++ rest in
+    let row = most-run DiagonalEntry 1 (run RightPart (2 * m) ∷ below) in
+    omega (arith, most-run RightPart (2 * m) below, most-matrix m rest, suc-mul m (suc m), mul-suc m m)
+
+abbrev vectorBytes : ℕ → ℕ → ℕ
+vectorBytes m q = 2 * (m * m) + 3 * (2 * m) + 3 * (m * q)
+
+most-vector : (m q : ℕ) → mostOf (kindsOf (runsOf (Vector m q))) ≡ vectorBytes m q
+unfolding runsOf kindsOf mostOf
+most-vector m q =
+    let priors = run BitPrior (m * q) ∷ [] in
+    let y = most-run ReceivedPart (2 * m) priors in
+    omega (arith, most-matrix m (run ReceivedPart (2 * m) ∷ priors), most-run BitPrior (m * q) [])
+
+most-vectors : (n m q : ℕ) → mostOf (vectorKinds n m q) ≡ n * vectorBytes m q
+unfolding vectorKinds mostOf
+most-vectors zero m q = omega arith
+most-vectors (suc n) m q =
+    let both = most-append (kindsOf (runsOf (Vector m q))) (vectorKinds n m q) in
+    omega (arith, most-vector m q, most-vectors n m q, suc-mul n (vectorBytes m q))
+
+most-record : (numbers : List ℤ)
+    → mostOf (recordKinds numbers) ≡ 11 + countAt 2 numbers * vectorBytes (countAt 0 numbers) (countAt 1 numbers)
+unfolding recordKinds mostOf kindsOf runsOf
+most-record numbers = omega (arith, most-vectors (countAt 2 numbers) (countAt 0 numbers) (countAt 1 numbers))
+
+-- An accepted record is at most 8,207 bytes
+pub accepted-size : (bytes : List ℕ) (at : ℕ) → readRecord bytes .read ≡ Ended at → at ≤ 8207
+unfolding blockOf
+accepted-size bytes at e =
+    let numbers = readRecord bytes .numbers in
+    let ranged = accepted-in-range bytes at e in
+    let streams : countAt 0 numbers ≤ 4 = ranged .streams in
+    let width : countAt 1 numbers ≤ 6 = width-small (countAt 1 numbers) (ranged .width) in
+    let vectors : countAt 2 numbers ≤ 64 = omega (arith, ranged .vectors, vectors-count numbers) in
+    let most : vectorBytes (countAt 0 numbers) (countAt 1 numbers) ≤ 128 =
+    omega (arith, mul-le-mul streams streams, mul-le-mul streams width) in
+    let size = numbers-size (recordKinds numbers) bytes 4 at (accepted-ends bytes at e) in
+    omega (arith, most-record numbers, mul-le-mul vectors most)

@@ -1,0 +1,146 @@
+-- A vector whose numbers are each in the range of their kind is a vector in range. Row by row: the diagonal's run and the run right of it
+-- stand in front, and behind them the runs of the rows below.
+use Prim.Native.Nat.{ℕ, zero, suc, _+_, _*_, _≤_, _<_}
+use mathlib.Core.Path.{_≡_, sym, _∙_}
+use mathlib.Core.Bool.{true}
+use mathlib.Core.List.{List, [], _∷_, _++_}
+use native.Mathlib.Omega.{arith}
+use native.Mathlib.Nat.{suc-mul, mul-suc}
+use lib.ListN.{length, getD, take, drop, replicate, length-append, length-take, length-drop, length-replicate}
+use lib.ListN.{getD-replicate, List·getD-append}
+use lib.Seq.{getD-drop, drop-drop}
+use lib.IntN.{ℤ, pos}
+use Rattle.model.specs.Block.{Every, Within, BothWithin, RowsInRange, VectorInRange, mostEntry, mostReceived, mostPrior}
+use Rattle.block.specs.Table.{allowed}
+use Rattle.block.specs.Reading.{run, kindsOf, matrixRuns, runsOf}
+use Rattle.block.specs.Contents.{complexes, rowsFrom, rowsOf}
+use Rattle.block.specs.declared.Kind.{Kind}
+use Rattle.block.specs.declared.Kind.the-variants.{DiagonalEntry, RightPart, ReceivedPart, BitPrior}
+use Rattle.block.specs.declared.Run.{Run}
+use Rattle.block.specs.declared.Part.the-variants.{Vector}
+use Rattle.block.proofs.Ranges.{Plain, between-plain, between-signed}
+use Rattle.block.proofs.Runs.{vector-numbers}
+use Rattle.block.proofs.Parts.{AllAllowed, allowed-length, plain-most}
+use Rattle.block.proofs.Places.{complexes-count, rows-from-count, rows-count}
+
+-- Numbers that are all in range, by their place
+pub allowed-at : (ks : List Kind) (zs : List ℤ) → AllAllowed ks zs → (i : ℕ) (d : Kind) → i < length ks
+    → allowed (getD ks i d) (getD zs i (pos 0)) ≡ true
+allowed-at [] zs a i d h = absurd (omega arith)
+allowed-at (k ∷ ks) [] a i d h = absurd a
+allowed-at (k ∷ ks) (z ∷ zs) a zero d h = a .0
+allowed-at (k ∷ ks) (z ∷ zs) a (suc i) d h = allowed-at ks zs (a .1) i d (omega arith)
+
+-- In two parts
+pub allowed-parts : (ks ls : List Kind) (zs : List ℤ) → AllAllowed (ks ++ ls) zs
+    → AllAllowed ks (take (length ks) zs) × AllAllowed ls (drop (length ks) zs)
+allowed-parts [] ls zs a = (tt, a)
+allowed-parts (k ∷ ks) ls [] a = absurd a
+allowed-parts (k ∷ ks) ls (z ∷ zs) a = let parts = allowed-parts ks ls zs (a .1) in ((a .0, parts .0), parts .1)
+
+-- A run in front, and what is behind it
+module _ (k : Kind) (n : ℕ) (rs : List Run) (zs : List ℤ) (a : AllAllowed (kindsOf (run k n ∷ rs)) zs) where
+  in-front : (i : ℕ) → i < n → allowed k (getD zs i (pos 0)) ≡ true
+  unfolding kindsOf
+  in-front i h =
+      let many = length-replicate n k in
+      let some : i < length (replicate n k) = omega arith in
+      let all : i < length (replicate n k ++ kindsOf rs) = omega (arith, length-append (replicate n k) (kindsOf rs)) in
+      rw (List·getD-append (replicate n k) (kindsOf rs) k i some, getD-replicate n i k k h)
+      at (allowed-at (replicate n k ++ kindsOf rs) zs a i k all)
+
+  behind : AllAllowed (kindsOf rs) (drop n zs)
+  unfolding kindsOf
+  behind = rw length-replicate at (allowed-parts (replicate n k) (kindsOf rs) zs a .1)
+
+-- The first n numbers are from -b to b
+abbrev FirstWithin : ℕ → ℕ → List ℤ → Type 0
+FirstWithin b n zs = (i : ℕ) → i < n → Within b (getD zs i (pos 0))
+
+within-later : {b : ℕ} (n m t : ℕ) (zs : List ℤ) → n + m ≡ t → FirstWithin b t zs → FirstWithin b m (drop n zs)
+within-later n m t zs e h i k = rw getD-drop (h (n + i) (omega arith))
+
+within-numbers : {b : ℕ} (n : ℕ) (zs : List ℤ) → FirstWithin b n zs → Every (Within b) (take n zs)
+within-numbers zero zs h = tt
+within-numbers (suc n) [] h = tt
+within-numbers (suc n) (z ∷ zs) h = (h 0 (omega arith), within-numbers n zs (λ i k. h (suc i) (omega arith)))
+
+within-complexes : {b : ℕ} (n : ℕ) (zs : List ℤ) → FirstWithin b (2 * n) zs → Every (BothWithin b) (complexes n zs)
+unfolding complexes
+within-complexes zero zs h = tt
+within-complexes (suc n) zs h = (
+  record { re = h 0 (omega arith); im = h 1 (omega arith) },
+  within-complexes n (drop 2 zs) (within-later 2 (2 * n) (2 * suc n) zs (omega arith) h),
+)
+
+-- The first row of R, with m rows below it, and what is behind the row
+module _ (rest : List Run) (m : ℕ) (zs : List ℤ) (a : AllAllowed (kindsOf (matrixRuns (suc m) ++ rest)) zs) where
+  diagonal-ranged : Plain 1 mostEntry (getD zs 0 (pos 0))
+  unfolding matrixRuns
+  diagonal-ranged =
+      between-plain 1 mostEntry (getD zs 0 (pos 0))
+      (in-front DiagonalEntry 1 (run RightPart (2 * m) ∷ matrixRuns m ++ rest) zs a 0 (omega arith))
+
+  right-allowed : AllAllowed (kindsOf (run RightPart (2 * m) ∷ matrixRuns m ++ rest)) (drop 1 zs)
+  unfolding matrixRuns
+  right-allowed = behind DiagonalEntry 1 (run RightPart (2 * m) ∷ matrixRuns m ++ rest) zs a
+
+  right-ranged : FirstWithin mostEntry (2 * m) (drop 1 zs)
+  right-ranged i h =
+      between-signed mostEntry (getD (drop 1 zs) i (pos 0))
+      (in-front RightPart (2 * m) (matrixRuns m ++ rest) (drop 1 zs) right-allowed i h)
+
+  row-behind : AllAllowed (kindsOf (matrixRuns m ++ rest)) (drop (1 + 2 * m) zs)
+  row-behind = rw drop-drop at (behind RightPart (2 * m) (matrixRuns m ++ rest) (drop 1 zs) right-allowed)
+
+-- What is behind R
+matrix-behind : (rest : List Run) (m : ℕ) (zs : List ℤ) → AllAllowed (kindsOf (matrixRuns m ++ rest)) zs
+    → AllAllowed (kindsOf rest) (drop (m * m) zs)
+unfolding matrixRuns
+matrix-behind rest zero zs a = a
+matrix-behind rest (suc m) zs a =
+    let e : 1 + 2 * m + m * m ≡ suc m * suc m = omega (arith, suc-mul m (suc m), mul-suc m m) in
+    rw (drop-drop, e) at (matrix-behind rest m (drop (1 + 2 * m) zs) (row-behind rest m zs a))
+
+-- The rows
+rows-ranged : (rest : List Run) (m q : ℕ) (r y p : List ℤ) → AllAllowed (kindsOf (matrixRuns m ++ rest)) r
+    → FirstWithin mostReceived (2 * m) y → FirstWithin mostPrior (m * q) p → m * q ≤ length p → RowsInRange q (rowsFrom m q r y p)
+unfolding rowsFrom
+rows-ranged rest zero q r y p a b c l = tt
+rows-ranged rest (suc m) q r y p a b c l =
+    let diagonal = diagonal-ranged rest m r a in
+    let more = suc-mul m q in (
+      record {
+        positive = rw (diagonal .is) (diagonal .low);
+        diagonal = plain-most diagonal;
+        entries = complexes-count m (drop 1 r) ∙ sym (rows-from-count m q (drop (1 + 2 * m) r) (drop 2 y) (drop q p));
+        right = within-complexes m (drop 1 r) (right-ranged rest m r a);
+        received = record { re = b 0 (omega arith); im = b 1 (omega arith) };
+        bits = length-take q p ∙ (omega arith);
+        priors = within-numbers q p (λ i h. c i (omega arith));
+      },
+      rows-ranged rest m q (drop (1 + 2 * m) r) (drop 2 y) (drop q p)
+          (row-behind rest m r a)
+          (within-later 2 (2 * m) (2 * suc m) y (omega arith) b)
+          (within-later q (m * q) (suc m * q) p (omega arith) c)
+          (rw length-drop (omega arith)),
+    )
+
+-- A vector
+pub vector-ranged : (m q : ℕ) (zs : List ℤ) → AllAllowed (kindsOf (runsOf (Vector m q))) zs → VectorInRange m q (rowsOf m q zs)
+unfolding runsOf rowsOf
+vector-ranged m q zs a =
+    let priors = run BitPrior (m * q) ∷ [] in
+    let y = drop (m * m) zs in
+    let p = drop (m * m + 2 * m) zs in
+    let many = allowed-length (kindsOf (runsOf (Vector m q))) zs a ∙ vector-numbers m q in
+    let b = matrix-behind (run ReceivedPart (2 * m) ∷ priors) m zs a in
+    let c = rw drop-drop at (behind ReceivedPart (2 * m) priors y b) in
+    record {
+      streams = rows-count m q zs;
+      ranged =
+          rows-ranged (run ReceivedPart (2 * m) ∷ priors) m q zs y p a
+          (λ i h. between-signed mostReceived (getD y i (pos 0)) (in-front ReceivedPart (2 * m) priors y b i h))
+          (λ i h. between-signed mostPrior (getD p i (pos 0)) (in-front BitPrior (m * q) [] p c i h))
+          (rw length-drop (omega arith));
+    }
