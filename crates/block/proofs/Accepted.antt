@@ -11,6 +11,7 @@ use lib.Seq.{drop-drop}
 use lib.IntN.{ℤ, pos}
 use Rattle.model.specs.Soft.{upFrom}
 use Rattle.model.specs.Block.{Every, InRange, widths, mostStreams, mostVectors, mostClip, mostShare}
+use Rattle.model.proofs.Lists.{every-upFrom}
 use Rattle.block.specs.Table.{allowed}
 use Rattle.block.specs.Reading.{kindsOf, runsOf, vectorSize, countAt, readRecord}
 use Rattle.block.specs.Contents.{vectorNumbers, vectorRows, blockOf, vectorKinds, recordKinds}
@@ -51,11 +52,6 @@ vectors-allowed (suc n) m q zs a (suc k) h =
     let rest = rw (vector-numbers m q) at (allowed-parts (kindsOf (runsOf (Vector m q))) (vectorKinds n m q) zs a .1) in
     let later = vectors-allowed n m q (drop size zs) rest k (omega arith) in
     rw (← drop-two size (k * size) (suc k * size) zs (omega (arith, suc-mul k size))) later
-
-every-upFrom : {A : Type 0} (P : A → Type 0) (f : ℕ → A) (a n : ℕ) → ((k : ℕ) → k < a + n → P (f k)) → Every P (map f (upFrom a n))
-unfolding upFrom
-every-upFrom P f a zero h = tt
-every-upFrom P f a (suc n) h = (h a (omega arith), every-upFrom P f (suc a) n (λ k l. h k (omega arith)))
 
 -- A record's numbers that are all in range
 module _ (numbers : List ℤ) (a : AllAllowed (recordKinds numbers) numbers) where

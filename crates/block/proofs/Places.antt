@@ -1,6 +1,6 @@
 -- Where a record's numbers stand. Row i begins behind the rows above it, which have 2m - 1, 2m - 3, .. numbers: i * (2m - i) in all. Its
 -- part of y and its priors begin behind theirs.
-use Prim.Native.Nat.{ℕ, zero, suc, _+_, _-_, _*_, _<_}
+use Prim.Native.Nat.{ℕ, zero, suc, _+_, _-_, _*_, _<_, _≤_}
 use mathlib.Core.Path.{_≡_, refl, _∙_, ap}
 use mathlib.Core.List.{List, _++_}
 use native.Mathlib.Omega.{arith}
@@ -104,7 +104,7 @@ module _ (m q : ℕ) (numbers : List ℤ) (i : ℕ) (d : Row) (h : i < m) where
   right-count = ap (λ (r : Row). length (r .right)) row-is ∙ complexes-count (m - 1 - i) (drop 1 (drop (i * (2 * m - i)) numbers))
 
   -- How many priors
-  pub prior-count : length numbers ≡ vectorSize m q → length (getD (rowsOf m q numbers) i d .priors) ≡ q
+  pub prior-count : vectorSize m q ≤ length numbers → length (getD (rowsOf m q numbers) i d .priors) ≡ q
   prior-count e =
       ap (λ (r : Row). length (r .priors)) row-is
       ∙ simp (length-take, length-drop) (omega (arith, suc-mul i q, mul-le-mul h (le-refl q)))

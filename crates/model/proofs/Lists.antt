@@ -11,7 +11,7 @@ use lib.ListN.{length, getD, length-append, length-map}
 use Rattle.model.specs.Constellation.{Bits, symbols}
 use Rattle.model.specs.Soft.{those, upFrom}
 use Rattle.model.specs.Walk.{anyOf, insert, sort}
-use Rattle.model.specs.Block.{_∈_}
+use Rattle.model.specs.Block.{_∈_, Every}
 
 pub or-left : (a b : Bool) → (a || b) ≡ false → a ≡ false
 or-left true b e = e
@@ -248,3 +248,9 @@ symbols-count zero = refl
 symbols-count (suc q) =
     length-append (map (_∷_ false) (symbols q)) (map (_∷_ true) (symbols q))
     ∙ omega (arith, length-map (symbols q) (_∷_ false), length-map (symbols q) (_∷_ true), symbols-count q, pow-suc 2 q)
+
+-- What holds of a rule's value at each place holds of every member
+pub every-upFrom : {A : Type 0} (P : A → Type 0) (f : ℕ → A) (a n : ℕ) → ((i : ℕ) → i < a + n → P (f i)) → Every P (map f (upFrom a n))
+unfolding upFrom
+every-upFrom P f a zero h = tt
+every-upFrom P f a (suc n) h = (h a (omega arith), every-upFrom P f (suc a) n (λ i k. h i (omega arith)))

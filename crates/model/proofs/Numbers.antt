@@ -106,7 +106,7 @@ map-in : (f g : Bits → ℕ) (xs : List Bits) → ((x : Bits) → x ∈ xs → 
 map-in f g [] h = refl
 map-in f g (x ∷ xs) h = ap₂ _∷_ (h x (List·Memᴰ·head refl)) (map-in f g xs (λ y k. h y (List·Memᴰ·tail k)))
 
-upFrom-append : (a m n : ℕ) → upFrom a (m + n) ≡ upFrom a m ++ upFrom (a + m) n
+pub upFrom-append : (a m n : ℕ) → upFrom a (m + n) ≡ upFrom a m ++ upFrom (a + m) n
 unfolding upFrom
 upFrom-append a zero n = rw (zero-add, add-zero)
 upFrom-append a (suc m) n = rw (suc-add, add-suc, ← suc-add) (ap (_∷_ a) (upFrom-append (suc a) m n))

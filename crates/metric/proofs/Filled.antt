@@ -1,0 +1,55 @@
+-- A list filled place by place: after its first k places, for every k, those hold their values and the others are as before.
+use Prim.Native.Nat.{ℕ, zero, suc, _+_, _<_, _≤_}
+use mathlib.Core.Path.{_≡_, refl, sym, _∙_, ap₂, subst}
+use mathlib.Core.Logic.{⊎-elim}
+use mathlib.Core.List.{List}
+use native.Mathlib.Nat.{eq-or-lt-of-le, le-of-suc-le-suc, not-suc-le-zero, ne-of-lt, ne-of-gt}
+use native.Mathlib.Decide.{decLt}
+use native.Mathlib.Numerals.{add-one}
+use native.Mathlib.Omega.{arith}
+use lib.ListN.{length, getD, set, length-set}
+use lib.Seq.{getD-set-same, getD-set-other}
+use Rattle.metric.specs.Parts.{filled}
+
+module _ {A : Type 0} where
+  -- One place more
+  pub filled-more : (f : ℕ → A) (k : ℕ) (l : List A) → set (filled f k l) k (f k) ≡ filled f (k + 1) l
+  unfolding filled
+  filled-more f k l = rw add-one
+
+  pub filled-length : (f : ℕ → A) (k : ℕ) (l : List A) → length (filled f k l) ≡ length l
+  unfolding filled
+  filled-length f zero l = refl
+  filled-length f (suc k) l = length-set (filled f k l) k (f k) ∙ filled-length f k l
+
+  -- From place k on nothing is changed
+  pub filled-rest : (f : ℕ → A) (k : ℕ) (l : List A) (i : ℕ) (d : A) → k ≤ i → getD (filled f k l) i d ≡ getD l i d
+  unfolding filled
+  filled-rest f zero l i d h = refl
+  filled-rest f (suc k) l i d h = getD-set-other (filled f k l) k i (f k) d (ne-of-gt h) ∙ filled-rest f k l i d (omega arith)
+
+  -- Before it each place holds its value
+  pub filled-at : (f : ℕ → A) (k : ℕ) (l : List A) (i : ℕ) (d : A) → i < k → k ≤ length l → getD (filled f k l) i d ≡ f i
+  unfolding filled
+  filled-at f zero l i d h room = absurd (not-suc-le-zero h)
+  filled-at f (suc k) l i d h room =
+      ⊎-elim
+      (λ (e : i ≡ k). rw e (getD-set-same (filled f k l) k (f k) d (omega (arith, filled-length f k l))))
+      (λ (lt : i < k). getD-set-other (filled f k l) k i (f k) d (ne-of-lt lt) ∙ filled-at f k l i d lt (omega arith))
+      (eq-or-lt-of-le (le-of-suc-le-suc h))
+
+  -- Rules that agree on the first n places fill alike
+  pub filled-same : (f g : ℕ → A) (n : ℕ) (l : List A) → ((i : ℕ) → i < n → f i ≡ g i) → filled f n l ≡ filled g n l
+  unfolding filled
+  filled-same f g zero l h = refl
+  filled-same f g (suc n) l h =
+      ap₂ (λ (x : List A) (v : A). set x n v) (filled-same f g n l (λ i k. h i (omega arith))) (h n (omega arith))
+
+  -- What every value of the rule and every old entry has, every entry has
+  pub filled-all : (P : A → Type 0) (f : ℕ → A) (k : ℕ) (l : List A) (d : A) → k ≤ length l
+      → ((i : ℕ) → P (f i)) → ((i : ℕ) → P (getD l i d)) → (i : ℕ) → P (getD (filled f k l) i d)
+  filled-all P f k l d room new old i = go (decLt i k)
+    where
+      go : Dec (i < k) → P (getD (filled f k l) i d)
+      go (yes h) = subst P (sym (filled-at f k l i d h room)) (new i)
+      go (no h) = subst P (sym (filled-rest f k l i d (omega arith))) (old i)

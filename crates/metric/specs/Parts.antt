@@ -1,0 +1,54 @@
+-- A child's increment by its two axes. The diagonal of R is real, so the real part of a residual depends on the real half of the
+-- symbol's label alone, and the imaginary part on the other half.
+use Prim.Native.Nat.{ℕ, zero, suc, _+_, _-_, _*_, _/_, _%_, _^_, _<_, _≤_}
+use mathlib.Core.Bool.{Bool}
+use mathlib.Core.List.{List, map}
+use lib.Dec.{eqb}
+use lib.IntN.{ℤ, pos, natAbs, _-ℤ_, _*ℤ_}
+use lib.ListN.{length, getD, set}
+use Rattle.model.specs.Constellation.{bitsOf, amplitude}
+use Rattle.model.specs.Metric.{priorCost}
+use Rattle.model.specs.Soft.{upFrom}
+
+-- n numbers of a list from a place on
+unfoldable pub part : List ℤ → ℕ → ℕ → List ℤ
+part numbers at n = map (λ i. getD numbers (at + i) (pos 0)) (upFrom 0 n)
+
+-- Bit i, counted from the first, of a label of n bits
+unfoldable pub bitOf : ℕ → ℕ → ℕ → Bool
+bitOf n label i = eqb (label / 2 ^ (n - suc i) % 2) 1
+
+-- What an axis label adds to the squared distance: `left` is what remains of y on that axis after the entries right of the diagonal
+abbrev pub axisDistance : ℤ → ℤ → ℕ → ℕ → ℕ
+axisDistance left diagonal w g =
+    let z = left -ℤ diagonal *ℤ amplitude (bitsOf w g) in
+    natAbs z * natAbs z
+
+-- and to the prior cost: `priors` are those of the axis's bits
+abbrev pub axisCost : List ℤ → ℕ → ℕ → ℕ
+axisCost priors w g = priorCost priors (bitsOf w g)
+
+-- The two together
+unfoldable pub axisPart : ℤ → ℤ → List ℤ → ℕ → ℕ → ℕ
+axisPart left diagonal priors w g = axisDistance left diagonal w g + axisCost priors w g
+
+-- A child's partial metric from its parent's and the parts of its two axis labels
+unfoldable pub childMetric : ℕ → ℕ → (ℕ → ℕ) → (ℕ → ℕ) → ℕ → ℕ
+childMetric q partial re im s = partial + (re (s / 2 ^ (q / 2)) + im (s % 2 ^ (q / 2)))
+
+-- A list with its first n places filled by a rule
+unfoldable pub filled : {A : Type 0} → (ℕ → A) → ℕ → List A → List A
+filled f zero l = l
+filled f (suc n) l = set (filled f n l) n (f n)
+
+-- Every entry of a list of metrics is small enough to add three of them
+abbrev pub AllSmall : List ℕ → Type 0
+AllSmall l = (i : ℕ) → getD l i 0 < 2 ^ 62
+
+-- What measuring an axis asks: at most three bits, whose priors stand within the numbers; what remains and the diagonal in their ranges
+pub record AxisAsked (numbers : List ℤ) (at : ℕ) (left diagonal : ℤ) (w : ℕ) : Type 0 where
+  pub bits : w ≤ 3
+  pub place : at ≤ 48
+  pub room : at + w ≤ length numbers
+  pub remains : natAbs left < 2 ^ 30
+  pub entry : natAbs diagonal < 2 ^ 11

@@ -1,0 +1,61 @@
+-- A row of a vector read off its whole numbers by places, and what remains of y in it.
+use Prim.Native.Nat.{ℕ, suc, _+_, _-_, _*_, _≤_, _<_, _^_}
+use mathlib.Core.Path.{_≡_}
+use mathlib.Core.List.{List, map, _++_}
+use lib.IntN.{ℤ, pos, natAbs}
+use lib.ListN.{length, getD}
+use Rattle.model.specs.Constellation.{Complex, Bits, bitsOf, _⊖_}
+use Rattle.model.specs.Metric.{Row, dot, increment}
+use Rattle.model.specs.Soft.{upFrom}
+use Rattle.model.specs.Block.{Within, mostStreams, mostEntry, mostReceived, mostPrior}
+use Rattle.block.specs.Reading.{vectorSize}
+use Rattle.block.specs.Contents.{complexAt}
+use Rattle.metric.specs.Parts.{part}
+
+-- Where row i's numbers of R begin, from 0: the rows before it have 2m - 1, 2m - 3, .. numbers
+abbrev pub rowStart : ℕ → ℕ → ℕ
+rowStart m i = i * (2 * m - i)
+
+-- Row i of a vector of m streams with q bits each
+unfoldable pub rowAt : ℕ → ℕ → List ℤ → ℕ → Row
+rowAt m q numbers i = record {
+  diagonal = natAbs (getD numbers (rowStart m i) (pos 0));
+  right = map (λ j. complexAt numbers (rowStart m i + 1 + 2 * j)) (upFrom 0 (m - suc i));
+  received = complexAt numbers (m * m + 2 * i);
+  priors = part numbers (m * m + 2 * m + i * q) q;
+}
+
+-- What remains of y in a row after the symbols that are chosen for the streams after its own
+unfoldable pub remainderOf : ℕ → Row → Bits → Complex
+remainderOf q r bits = r .received ⊖ dot q (r .right) bits
+
+-- The partial metric of the child with symbol s, below a node of partial metric d at the stream before row i's
+unfoldable pub childOf : ℕ → ℕ → List ℤ → ℕ → ℕ → ℕ → ℕ → ℕ
+childOf m q numbers i node d s = d + increment q (rowAt m q numbers i) (bitsOf q s ++ bitsOf ((m - suc i) * q) node)
+
+-- What measuring asks of a vector's numbers: the sizes and ranges of document 01, "The record"
+pub record VectorAsked (m q : ℕ) (numbers : List ℤ) : Type 0 where
+  pub streams : m ≤ mostStreams
+  pub bit : 0 < q
+  pub bits : q ≤ 6
+  pub room : vectorSize m q ≤ length numbers
+  pub entries : (i : ℕ) → i < m * m → Within mostEntry (getD numbers i (pos 0))
+  pub plain : (i : ℕ) → i < m → getD numbers (rowStart m i) (pos 0) ≡ pos (natAbs (getD numbers (rowStart m i) (pos 0)))
+  pub positive : (i : ℕ) → i < m → 1 ≤ natAbs (getD numbers (rowStart m i) (pos 0))
+  pub received : (i : ℕ) → i < 2 * m → Within mostReceived (getD numbers (m * m + i) (pos 0))
+  pub priors : (i : ℕ) → i < m * q → Within mostPrior (getD numbers (m * m + 2 * m + i) (pos 0))
+
+-- The parts of two complex numbers, an entry of R and a point, that are multiplied
+pub record Factors (a b x y : ℤ) : Type 0 where
+  pub entry-re : natAbs a ≤ mostEntry
+  pub entry-im : natAbs b ≤ mostEntry
+  pub point-re : natAbs x ≤ 7
+  pub point-im : natAbs y ≤ 7
+
+-- What multiplying the entry of R at a place with a symbol's point asks
+pub record TermAsked (numbers : List ℤ) (place q symbol : ℕ) : Type 0 where
+  pub room : place + 1 < length numbers
+  pub bits : q ≤ 6
+  pub below : symbol < 2 ^ q
+  pub real : Within mostEntry (getD numbers place (pos 0))
+  pub imaginary : Within mostEntry (getD numbers (place + 1) (pos 0))
