@@ -1,0 +1,114 @@
+-- The soft values that code writes are the model's, and so is what a search of one vector returns.
+use Prim.Native.Nat.{ℕ, _+_, _*_, _^_, _≤_, _<_}
+use mathlib.Core.Path.{_≡_, refl, sym, _∙_, ap, ap₂}
+use mathlib.Core.Bool.{Bool}
+use mathlib.Core.List.{List, map, _++_}
+use native.Mathlib.Nat.{le-refl, mul-le-mul}
+use native.Mathlib.Omega.{arith}
+use lib.IntN.{ℤ, natAbs}
+use lib.ListN.{length, getD, set, drop}
+use lib.Pow.{pow-pos}
+use Rattle.model.specs.Metric.{Vector, labelBits, priorAt}
+use Rattle.model.specs.Soft.{softValue, places}
+use Rattle.model.specs.Block.{Answer, answer}
+use Rattle.block.proofs.Places.{rows-count, all-priors-at}
+use Rattle.metric.specs.Rows.{VectorAsked}
+use Rattle.metric.specs.Parts.{filled}
+use Rattle.metric.proofs.Filled.{filled-more, filled-same}
+use Rattle.search.specs.Program.{above, sideOf, Taken, takenOf, keptOf, fresh, chosen, below, valueOf, answerOf}
+use Rattle.search.specs.Limits.{vectorAt, SearchAsked, limitAt, widestFrom, WalkAsked}
+use Rattle.search.specs.Values.{MinimaLow, Answered}
+use Rattle.search.proofs.Answer.{answered, soft-is}
+use Rattle.search.proofs.Bounds.{minima-low}
+use Rattle.search.proofs.Limits.{limited}
+use Rattle.search.proofs.Rows.{ranged}
+
+-- A label has at most 24 bits
+pub few : {m q : ℕ} {numbers : List ℤ} → VectorAsked m q numbers → m * q ≤ 24
+few h = omega (arith, mul-le-mul (h .streams) (h .bits))
+
+-- M rows of Q bits make the label's bits
+pub bits-are : (m q clip : ℕ) (numbers : List ℤ) → m * q ≡ labelBits (vectorAt m q clip numbers)
+bits-are m q clip numbers = ap (λ (n : ℕ). n * q) (sym (rows-count m q numbers))
+
+-- A prior is small
+pub prior-small : (m q clip : ℕ) (numbers : List ℤ) (i : ℕ) → VectorAsked m q numbers → i < m * q
+    → natAbs (priorAt (vectorAt m q clip numbers) i) < 2 ^ 31
+prior-small m q clip numbers i h k = omega (arith, ap natAbs (all-priors-at m q numbers i k), h .priors i k)
+
+-- A soft value does not depend on the best label
+value-same : (v : Vector) (t u : Taken) → t .zeros ≡ u .zeros → t .ones ≡ u .ones → (i : ℕ) → valueOf v t i ≡ valueOf v u i
+unfolding valueOf
+value-same v t u ez eo i = λ j. softValue (v .clip) (v .clip) (priorAt v i) (sideOf (getD (eo j) i 0)) (sideOf (getD (ez j) i 0))
+
+-- A soft value from the prior that was read
+pub soft-by : (v : Vector) (zeros ones : List ℕ) (i : ℕ) (prior r : ℤ) → prior ≡ priorAt v i
+    → r ≡ softValue (v .clip) (v .clip) prior (sideOf (getD ones i 0)) (sideOf (getD zeros i 0))
+    → r ≡ valueOf v (takenOf 0 0 zeros ones) i
+unfolding valueOf
+soft-by v zeros ones i prior r e f =
+    f ∙ ap (λ (p : ℤ). softValue (v .clip) (v .clip) p (sideOf (getD ones i 0)) (sideOf (getD zeros i 0))) e
+
+-- One soft value more is written
+pub write-more : (v : Vector) (zeros ones : List ℕ) (i : ℕ) (before now : List ℤ) (r : ℤ)
+    → now ≡ filled (valueOf v (takenOf 0 0 zeros ones)) i before → r ≡ valueOf v (takenOf 0 0 zeros ones) i
+    → set now i r ≡ filled (valueOf v (takenOf 0 0 zeros ones)) (i + 1) before
+write-more v zeros ones i before now r e f =
+    ap₂ (λ (l : List ℤ) (z : ℤ). set l i z) e f ∙ filled-more (valueOf v (takenOf 0 0 zeros ones)) i before
+
+module _ {m q clip : ℕ} {numbers : List ℤ} (h : SearchAsked m q clip numbers) where
+  -- What the walk from the root asks
+  pub root-asked : (old limits : List ℕ) (widest : ℕ) → length old ≡ 24
+      → limits ≡ filled (limitAt (vectorAt m q clip numbers) (fresh 24 .taken)) (m * q) old → widest ≡ widestFrom limits 0 (m * q)
+      → WalkAsked m q clip numbers m 0 0 (fresh 24 .taken) limits widest
+  root-asked old limits widest room e f = record {
+    asked = h;
+    inside = le-refl m;
+    placed = pow-pos (chosen (vectorAt m q clip numbers) m);
+    bounded = omega arith;
+    lowest = le-refl above;
+    limited = limited (vectorAt m q clip numbers) (fresh 24 .taken) (m * q) (bits-are m q clip numbers) old limits
+        (omega (arith, few (h .vector))) e widest f;
+  }
+
+  -- What the walk from the root has kept at the end
+  module _ (allowance : ℕ) {count : ℕ} {stopped : Bool} {t : Taken}
+      (e : keptOf count stopped t ≡ below (vectorAt m q clip numbers) allowance m 0 0 (fresh 24)) where
+    -- has low minima
+    pub end-low : MinimaLow (t .zeros) (t .ones)
+    end-low = record {
+      zeros-low = λ i. minima-low (vectorAt m q clip numbers) allowance m 0 0 24 e i .0;
+      ones-low = λ i. minima-low (vectorAt m q clip numbers) allowance m 0 0 24 e i .1;
+    }
+
+    -- and is the model's answer
+    pub end-answered : (before after : List ℤ) → length before ≡ 24
+        → after ≡ filled (valueOf (vectorAt m q clip numbers) (takenOf 0 0 (t .zeros) (t .ones))) (m * q) before
+        → Answered (vectorAt m q clip numbers) allowance stopped count (t .label) before after
+    end-answered before after room f = record {
+      stopped-is = ap (λ (x : Answer). x .stopped) same;
+      count-is = ap (λ (x : Answer). x .count) same;
+      label-is = ap (λ (x : Answer). x .result .label) same;
+      soft-is = f ∙ values ∙ ap (λ (n : ℕ). filled (valueOf v t) n before) bits ∙ front;
+    }
+      where
+        v : Vector
+        v = vectorAt m q clip numbers
+
+        bits : m * q ≡ labelBits v
+        bits = bits-are m q clip numbers
+
+        wide : labelBits v ≤ 24
+        wide = omega (arith, few (h .vector), bits)
+
+        from : keptOf count stopped t ≡ below v allowance (length (v .rows)) 0 0 (fresh 24)
+        from = e ∙ ap (λ (l : ℕ). below v allowance l 0 0 (fresh 24)) (sym (rows-count m q numbers))
+
+        same : answerOf stopped count (t .label) (map (valueOf v t) (places v)) ≡ answer v allowance
+        same = answered v (ranged _ _ _ _ h) allowance 24 wide from
+
+        front : filled (valueOf v t) (labelBits v) before ≡ answer v allowance .result .soft ++ drop (labelBits v) before
+        front = soft-is v (ranged _ _ _ _ h) allowance 24 wide from before (omega (arith, wide, room))
+
+        values : filled (valueOf v (takenOf 0 0 (t .zeros) (t .ones))) (m * q) before ≡ filled (valueOf v t) (m * q) before
+        values = filled-same _ _ (m * q) before (λ i k. value-same v (takenOf 0 0 (t .zeros) (t .ones)) t refl refl i)

@@ -1,0 +1,5 @@
+-- The search over numbers, against which code is proved.
+pub mod Arrays
+pub mod Program
+pub mod Limits
+pub mod Values
