@@ -278,10 +278,10 @@ fn passes(
 }
 
 // Can a child of partial metric d or more pass at all?
-fn is_within(d: u64, best: u64, widest: u64) -> bool
-    ensures { λ r. ⌜ r ≡ (leb d best || ltb d widest) ⌝ }
+fn is_within(d: u64, least: u64, widest: u64) -> bool
+    ensures { λ r. ⌜ r ≡ (leb d least || ltb d widest) ⌝ }
 {
-    if d <= best {
+    if d <= least {
         return true;
     }
     d < widest
