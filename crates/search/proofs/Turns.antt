@@ -10,33 +10,14 @@ use lib.Dec.{ltb}
 use borrow.Author.Tests.{lt-ltb, le-ltb}
 use lib.ListN.{length, getD, set}
 use lib.Pow.{pow-pos}
-use Rattle.model.specs.Metric.{Vector, labelBits}
+use Rattle.model.specs.Metric.{Vector}
 use Rattle.model.proofs.Lists.{length-upFrom, getD-places}
 use Rattle.metric.specs.Parts.{filled}
 use Rattle.search.specs.Arrays.{leastFirst}
-use Rattle.search.specs.Program.{above, Taken, Kept, takenOf, keptOf, passing, lowered, sooner, noted}
+use Rattle.search.specs.Program.{above, Taken, Kept, keptOf, passing}
 use Rattle.search.specs.Program.{keyOf, childOf, keysOf, onward, siblings, testOf, below, restOf}
 use Rattle.metric.proofs.Filled.{filled-at, filled-length}
 use Rattle.search.proofs.Arrays.{least-below, Same, least-same, same-set}
-use Rattle.search.proofs.Agree.{sooner-min}
-
--- Level 0: a leaf, with the minima as the loop over bits leaves them
-module _ (v : Vector) (n : ℕ) (en : n ≡ labelBits v) (allowance node level d : ℕ) (leaf : level ≡ 0) (k : Kept) (zeros ones : List ℕ)
-    (ez : zeros ≡ lowered n false node d (k .taken .zeros)) (eo : ones ≡ lowered n true node d (k .taken .ones)) where
-  leaf-is : (b : Bool) → b ≡ sooner d node (k .taken .best) (k .taken .label) → below v allowance level node d k
-      ≡ keptOf (k .count) (k .stopped) (takenOf (cond b node (k .taken .label)) (cond b d (k .taken .best)) zeros ones)
-  unfolding below noted
-  leaf-is b e = rw (leaf, sooner-min d node (k .taken .best) (k .taken .label) (sym e), ← e, ← en, ← ez, ← eo)
-
-  -- that comes before the best one
-  pub leaf-new : true ≡ sooner d node (k .taken .best) (k .taken .label)
-      → keptOf (k .count) (k .stopped) (takenOf node d zeros ones) ≡ below v allowance level node d k
-  leaf-new e = sym (leaf-is true e)
-
-  -- that does not
-  pub leaf-old : false ≡ sooner d node (k .taken .best) (k .taken .label)
-      → keptOf (k .count) (k .stopped) (takenOf (k .taken .label) (k .taken .best) zeros ones) ≡ below v allowance level node d k
-  leaf-old e = sym (leaf-is false e)
 
 -- Only the first n keys decide
 module _ (test : ℕ → ℕ → Taken → Bool) (sub : ℕ → ℕ → Kept → Kept) (n allowance : ℕ) (some : 0 < n) where
