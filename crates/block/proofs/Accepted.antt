@@ -23,7 +23,7 @@ use Rattle.block.proofs.Runs.{vector-numbers}
 use Rattle.block.proofs.Parts.{AllAllowed, allowed-length, plain-most}
 use Rattle.block.proofs.Places.{vectors-count, drop-two}
 use Rattle.block.proofs.Flat.{accepted-allowed}
-use Rattle.block.proofs.Vectors.{allowed-at, allowed-parts, vector-ranged}
+use Rattle.block.proofs.Vectors.{allowed-at, allowed-parts, Placed, vector-placed, vector-ranged}
 
 -- As many kinds as M, Q and N call for
 vector-kinds-count : (n m q : ℕ) → length (vectorKinds n m q) ≡ n * vectorSize m q
@@ -102,14 +102,13 @@ module _ (bytes : List ℕ) (at : ℕ) (e : readRecord bytes .read ≡ Ended at)
       let numbers = readRecord bytes .numbers in
       allowed-length (recordKinds numbers) numbers (accepted-allowed bytes at e) ∙ kinds-count numbers
 
-  -- Vector k of it is whole
-  pub accepted-vector : (k : ℕ) → let numbers = readRecord bytes .numbers in k < countAt 2 numbers
-      → length (vectorNumbers numbers k) ≡ vectorSize (countAt 0 numbers) (countAt 1 numbers)
-  accepted-vector k h =
+  -- Vector k of it is whole, and its numbers are in range place by place
+  pub accepted-placed : (k : ℕ) → let numbers = readRecord bytes .numbers in k < countAt 2 numbers
+      → Placed (countAt 0 numbers) (countAt 1 numbers) (vectorNumbers numbers k)
+  accepted-placed k h =
       let numbers = readRecord bytes .numbers in
-      allowed-length (kindsOf (runsOf (Vector (countAt 0 numbers) (countAt 1 numbers)))) (vectorNumbers numbers k)
+      vector-placed (countAt 0 numbers) (countAt 1 numbers) (vectorNumbers numbers k)
       (vector-allowed numbers (accepted-allowed bytes at e) k h)
-      ∙ vector-numbers (countAt 0 numbers) (countAt 1 numbers)
 
   -- Its block is in range
   pub accepted-in-range : InRange (blockOf (readRecord bytes .numbers))

@@ -10,3 +10,5 @@ pub mod Vectors
 pub mod Accepted
 pub mod Size
 pub mod Readings
+pub mod Conditions
+pub mod Lent

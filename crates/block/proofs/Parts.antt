@@ -1,21 +1,19 @@
 -- Parts one after the other, and what is known of the numbers of a part that was read whole: each is in the range of its kind.
-use Prim.Native.Nat.{ℕ, zero, suc, _+_, _-_, _*_, _≤_, _<_}
-use mathlib.Core.Path.{_≡_, refl, sym, _∙_, ap, ap₂, subst}
-use mathlib.Core.Bool.{Bool, true, false, cond}
+use Prim.Native.Nat.{ℕ, suc, _+_, _-_, _*_, _≤_, _<_}
+use mathlib.Core.Path.{_≡_, refl, sym, _∙_, ap, subst}
+use mathlib.Core.Bool.{true, false}
 use mathlib.Core.List.{List, [], _∷_, _++_}
 use native.Mathlib.Omega.{arith}
 use native.Mathlib.Nat.{suc-mul, mul-le-mul}
 use lib.ListN.{length, getD, set, take, drop, length-append, List·getD-append}
 use lib.Seq.{sets, sets-eq, length-sets, getD-append-add, length-take-le}
 use lib.IntN.{ℤ, pos, natAbs}
-use Rattle.wire.specs.Reading.{numberAt}
-use Rattle.wire.specs.declared.Number.{Number}
-use Rattle.wire.specs.declared.Number.the-variants.{Value, Short, Malformed}
 use Rattle.model.proofs.Bounds.{width-small}
 use Rattle.model.specs.Block.{widths, mostVectors, mostClip, mostShare}
-use Rattle.block.specs.Table.{between, allowed, refusalOf}
+use Rattle.block.specs.Table.{between, allowed}
 use Rattle.block.proofs.Ranges.{Plain, between-plain, OneOf, one-of}
-use Rattle.block.specs.Reading.{wholeOf, byNumber, oneAt, Parse, byOne, numbersAt, byRead, andThen, kindsOf, runsOf, partAt, vectorSize, vectorsAt, countAt, sizedAt, recordAt, opening, startsWith, readRecord, atEnd, readWhole, Got, got, into}
+use Rattle.block.proofs.Reading.{one-found}
+use Rattle.block.specs.Reading.{oneAt, Parse, byOne, numbersAt, andThen, kindsOf, runsOf, partAt, vectorSize, vectorsAt, countAt, sizedAt, recordAt, opening, startsWith, readRecord, atEnd, readWhole, Got, got, into}
 use Rattle.block.specs.declared.Kind.{Kind}
 use Rattle.block.specs.declared.Kind.the-variants.{StreamCount}
 use Rattle.block.specs.declared.One.{One}
@@ -31,6 +29,10 @@ use Rattle.block.proofs.Runs.{vector-numbers}
 pub sets-append : {A : Type 0} (a b l : List A) (i : ℕ) → sets l i (a ++ b) ≡ sets (sets l i a) (i + length a) b
 sets-append [] b l i = let e : i + 0 ≡ i = omega arith in rw e
 sets-append (x ∷ a) b l i = let e : i + suc (length a) ≡ suc i + length a = omega arith in rw e (sets-append a b (set l i x) (suc i))
+
+-- Storing keeps the list's length
+pub into-length : (from : ℕ) (p : Parse) (r : Read) (list list′ : List ℤ) → got r list′ ≡ into from p list → length list′ ≡ length list
+into-length from p r list list′ e = ap (λ (g : Got). length (g .list)) e ∙ length-sets list from (p .numbers)
 
 -- Where a parse was stored whole, what follows goes on behind it; where it was turned back, nothing follows
 module _ (p : Parse) (f : List ℤ → ℕ → Parse) (from : ℕ) (list list′ : List ℤ) where
@@ -62,17 +64,6 @@ allowed-length [] (z ∷ zs) h = absurd h
 allowed-length (k ∷ ks) [] h = absurd h
 allowed-length (k ∷ ks) (z ∷ zs) h = ap suc (allowed-length ks zs (h .1))
 
--- A number that was taken is in range
-one-allowed : (k : Kind) (x : Number) (z : ℤ) (next : ℕ) → byNumber k x ≡ Taken z next → allowed k z ≡ true
-unfolding byNumber
-one-allowed k (Value n place) z next e = go (allowed k (wholeOf k n)) refl e
-  where
-    go : (b : Bool) → allowed k (wholeOf k n) ≡ b → cond b (Taken (wholeOf k n) place) (Turned (refusalOf k)) ≡ Taken z next → allowed k z ≡ true
-    go true f g = let h : wholeOf k n ≡ z = cc in subst (λ (w : ℤ). allowed k w ≡ true) h f
-    go false f g = let h : _≡_ {A = ℕ} 0 1 = cc in absurd (omega arith)
-one-allowed k Short z next e = let h : _≡_ {A = ℕ} 0 1 = cc in absurd (omega arith)
-one-allowed k Malformed z next e = let h : _≡_ {A = ℕ} 0 1 = cc in absurd (omega arith)
-
 -- Numbers that were read whole
 pub all-allowed : (ks : List Kind) (bytes : List ℕ) (at next : ℕ) → numbersAt ks bytes at .read ≡ Ended next → AllAllowed ks (numbersAt ks bytes at .numbers)
 unfolding numbersAt
@@ -82,7 +73,8 @@ all-allowed (k ∷ ks) bytes at next e = go (oneAt k bytes at) refl e (λ place.
     go : (o : One) → oneAt k bytes at ≡ o → byOne (numbersAt ks bytes) o .read ≡ Ended next
         → ((place : ℕ) → numbersAt ks bytes place .read ≡ Ended next → AllAllowed ks (numbersAt ks bytes place .numbers))
         → AllAllowed (k ∷ ks) (byOne (numbersAt ks bytes) o .numbers)
-    go (Taken z place) f g ih = (one-allowed k (numberAt bytes at) z place f, ih place g)
+    go (Taken z place) f g ih =
+        let n = one-found k bytes at z place f in (subst (λ (w : ℤ). allowed k w ≡ true) (n .is) (n .ranged), ih place g)
     go (Turned r) f g ih = let h : _≡_ {A = ℕ} 0 1 = cc in absurd (omega arith)
 
 -- n vectors, after k of them
@@ -215,7 +207,7 @@ module _ (bytes : List ℕ) (at next : ℕ) (list list′ : List ℤ) (e : got (
       ∙ getD-sets list (firstAt bytes at) 0 0 (pos 0) (omega (arith, first-is .many, len)) (omega (arith, first-is .many))
 
   pub same-length : length list′ ≡ length list
-  same-length = ap (λ (g : Got). length (g .list)) e ∙ length-sets list 0 (firstAt bytes at)
+  same-length = into-length 0 (partAt First bytes at) (Ended next) list list′ e
 
   pub record-ended : into 0 (recordAt bytes at) list ≡ into 1 (sizedAt (getD (firstAt bytes at) 0 (pos 0)) bytes next) list′
   unfolding recordAt

@@ -41,7 +41,8 @@ unfolding rowsFrom
 rows-from-count zero q r y p = refl
 rows-from-count (suc m) q r y p = ap suc (rows-from-count m q (drop (1 + 2 * m) r) (drop 2 y) (drop q p))
 
-row-start : (m i : ℕ) → i < m → 1 + 2 * m + i * (2 * m - i) ≡ suc i * (2 * suc m - suc i)
+-- Where row i + 1 of m + 1 rows begins
+pub row-start : (m i : ℕ) → i < m → 1 + 2 * m + i * (2 * m - i) ≡ suc i * (2 * suc m - suc i)
 row-start m i h =
     let e : 2 * suc m - suc i ≡ suc (2 * m - i) = omega arith in
     rw e (omega (arith, suc-mul i (suc (2 * m - i)), mul-suc i (2 * m - i)))

@@ -1,25 +1,21 @@
 -- Reading by cases: what one number that was read does, how numbers go on, and what becomes of the lent list.
-use Prim.Native.Nat.{ℕ, zero, suc, _+_, _-_, _*_, _≤_, _<_}
-use mathlib.Core.Path.{_≡_, refl, sym, _∙_, ap, ap₂, subst}
+use Prim.Native.Nat.{ℕ, suc, _+_, _-_, _≤_, _<_}
+use mathlib.Core.Path.{_≡_, refl, sym, _∙_, ap, subst}
 use mathlib.Core.Bool.{Bool, true, false, cond}
-use mathlib.Core.List.{List, [], _∷_, _++_, append-assoc}
+use mathlib.Core.List.{List, [], _∷_, _++_}
 use native.Mathlib.Omega.{arith}
-use native.Mathlib.Numerals.{add-one}
-use lib.ListN.{length, getD, set, replicate, drop}
-use lib.Seq.{sets, drop-cons}
-use lib.IntN.{ℤ, pos}
+use lib.ListN.{length, set, replicate}
+use lib.IntN.{ℤ}
 use Rattle.wire.specs.Reading.{numberAt}
 use Rattle.wire.specs.declared.Number.{Number}
-use Rattle.wire.specs.declared.Number.the-variants.{Value}
+use Rattle.wire.specs.declared.Number.the-variants.{Value, Short, Malformed}
 use Rattle.block.specs.Table.{allowed, refusalOf}
-use Rattle.block.specs.Reading.{wholeOf, byNumber, oneAt, Parse, byOne, numbersAt, kindsOf, Got, got, into}
+use Rattle.block.specs.Reading.{wholeOf, byNumber, oneAt, byOne, numbersAt, Got, got, into}
 use Rattle.block.specs.declared.Kind.{Kind}
 use Rattle.block.specs.declared.One.{One}
 use Rattle.block.specs.declared.One.the-variants.{Taken, Turned}
-use Rattle.block.specs.declared.Read.{Read}
 use Rattle.block.specs.declared.Read.the-variants.{Ended, Refused}
 use Rattle.block.specs.declared.Refusal.{Refusal}
-use Rattle.block.specs.declared.Run.{Run}
 
 module _ (k : Kind) (bytes : List ℕ) (at n next : ℕ) (found : numberAt bytes at ≡ Value n next) where
   -- A number in range is taken, any other turned back
@@ -30,6 +26,42 @@ module _ (k : Kind) (bytes : List ℕ) (at n next : ℕ) (found : numberAt bytes
   pub one-turned : allowed k (wholeOf k n) ≡ false → oneAt k bytes at ≡ Turned (refusalOf k)
   unfolding byNumber
   one-turned e = rw (found, e)
+
+-- A number that was taken
+pub record Found (k : Kind) (bytes : List ℕ) (at : ℕ) (z : ℤ) (next : ℕ) : Type 0 where
+  pub n : ℕ
+  pub value : numberAt bytes at ≡ Value n next
+  pub is : wholeOf k n ≡ z
+  pub ranged : allowed k (wholeOf k n) ≡ true
+
+-- was read, and is in range
+pub one-found : (k : Kind) (bytes : List ℕ) (at : ℕ) (z : ℤ) (next : ℕ) → oneAt k bytes at ≡ Taken z next → Found k bytes at z next
+unfolding byNumber
+one-found k bytes at z next e = go (numberAt bytes at) refl e
+  where
+    by-range : (n place : ℕ) → numberAt bytes at ≡ Value n place → (b : Bool) → allowed k (wholeOf k n) ≡ b
+        → cond b (Taken (wholeOf k n) place) (Turned (refusalOf k)) ≡ Taken z next → Found k bytes at z next
+    by-range n place f true a g =
+        let same : place ≡ next = cc in record { n = n; value = f ∙ ap (Value n) same; is = cc; ranged = a }
+    by-range n place f false a g = let h : _≡_ {A = ℕ} 0 1 = cc in absurd (omega arith)
+
+    go : (x : Number) → numberAt bytes at ≡ x → byNumber k x ≡ Taken z next → Found k bytes at z next
+    go (Value n place) f g = by-range n place f (allowed k (wholeOf k n)) refl g
+    go Short f g = let h : _≡_ {A = ℕ} 0 1 = cc in absurd (omega arith)
+    go Malformed f g = let h : _≡_ {A = ℕ} 0 1 = cc in absurd (omega arith)
+
+-- What each number that is taken keeps holds where the numbers end
+pub numbers-keep : (P : List Kind → ℕ → Type 0) (bytes : List ℕ)
+    → ((k : Kind) (ks : List Kind) (at next : ℕ) (z : ℤ) → oneAt k bytes at ≡ Taken z next → P (k ∷ ks) at → P ks next)
+    → (ks : List Kind) (at next : ℕ) → P ks at → numbersAt ks bytes at .read ≡ Ended next → P [] next
+unfolding numbersAt
+numbers-keep P bytes step [] at next h e = let same : at ≡ next = cc in subst (P []) same h
+numbers-keep P bytes step (k ∷ ks) at next h e = go (oneAt k bytes at) refl e (λ place. numbers-keep P bytes step ks place next)
+  where
+    go : (o : One) → oneAt k bytes at ≡ o → byOne (numbersAt ks bytes) o .read ≡ Ended next
+        → ((place : ℕ) → P ks place → numbersAt ks bytes place .read ≡ Ended next → P [] next) → P [] next
+    go (Taken z place) f g ih = ih place (step k ks at place z f h) g
+    go (Turned r) f g ih = let z : _≡_ {A = ℕ} 0 1 = cc in absurd (omega arith)
 
 module _ (k : Kind) (ks : List Kind) (bytes : List ℕ) (at from : ℕ) (list : List ℤ) where
   -- A number taken is stored, and the rest goes on from there

@@ -1,34 +1,32 @@
 -- How long an accepted record can be. A number of each kind has at most so many groups; their sum over a record's kinds rises with M, Q and
 -- N, so it is computed once, at the largest that document 01 has.
 use Prim.Native.Nat.{ℕ, zero, suc, _+_, _*_, _^_, _≤_, _<_}
-use mathlib.Core.Path.{_≡_, refl}
-use mathlib.Core.Bool.{Bool, true, false, cond}
+use mathlib.Core.Path.{_≡_}
+use mathlib.Core.Bool.{true}
 use mathlib.Core.List.{List, [], _∷_, _++_}
 use native.Mathlib.Omega.{arith}
 use native.Mathlib.Nat.{suc-mul, mul-suc, mul-le-mul}
 use lib.ListN.{length}
 use lib.IntN.{ℤ, pos, negℤ}
-use Rattle.wire.specs.Reading.{numberAt}
 use Rattle.wire.specs.Writing.{bytesOf}
 use Rattle.wire.specs.Folding.{unfolded}
-use Rattle.wire.specs.declared.Number.{Number}
-use Rattle.wire.specs.declared.Number.the-variants.{Value, Short, Malformed}
 use Rattle.wire.proofs.Writing.{bytesOf-short, bytesOf-most}
 use Rattle.wire.proofs.RoundTrip.{unfolded-below, read-ends}
 use Rattle.model.specs.Block.{widths, mostStreams, mostVectors, mostEntry, mostReceived, mostPrior}
 use Rattle.model.proofs.Bounds.{width-small}
-use Rattle.block.specs.Table.{between, allowed, refusalOf}
-use Rattle.block.specs.Reading.{wholeOf, byNumber, oneAt, byOne, numbersAt, run, kindsOf, matrixRuns, runsOf, countAt, readRecord}
+use Rattle.block.specs.Table.{between, allowed}
+use Rattle.block.specs.Reading.{wholeOf, oneAt, numbersAt, run, kindsOf, matrixRuns, runsOf, countAt, readRecord}
 use Rattle.block.specs.Contents.{blockOf, vectorKinds, recordKinds}
 use Rattle.block.specs.declared.Kind.{Kind}
 use Rattle.block.specs.declared.Kind.the-variants.{StreamCount, SymbolWidth, VectorCount, ClipLevel, NodeShare}
 use Rattle.block.specs.declared.Kind.the-variants.{DiagonalEntry, RightPart, ReceivedPart, BitPrior}
 use Rattle.block.specs.declared.One.{One}
-use Rattle.block.specs.declared.One.the-variants.{Taken, Turned}
+use Rattle.block.specs.declared.One.the-variants.{Taken}
 use Rattle.block.specs.declared.Read.the-variants.{Ended}
 use Rattle.block.specs.declared.Run.{Run}
 use Rattle.block.specs.declared.Part.the-variants.{Vector}
 use Rattle.block.proofs.Ranges.{between-plain, between-signed, one-of}
+use Rattle.block.proofs.Reading.{one-found, numbers-keep}
 use Rattle.block.proofs.Parts.{plain-most, width-most}
 use Rattle.block.proofs.Places.{vectors-count}
 use Rattle.block.proofs.Flat.{accepted-ends}
@@ -68,18 +66,8 @@ kind-bytes BitPrior n e = folded-bytes 3 mostPrior n (omega arith) (omega arith)
 
 -- One number that was taken
 one-size : (k : Kind) (bytes : List ℕ) (at next : ℕ) (z : ℤ) → oneAt k bytes at ≡ Taken z next → next ≤ at + mostBytes k
-unfolding byNumber
-one-size k bytes at next z e = go (numberAt bytes at) refl e
-  where
-    ranged : (n place : ℕ) → numberAt bytes at ≡ Value n place → (b : Bool) → allowed k (wholeOf k n) ≡ b
-        → cond b (Taken (wholeOf k n) place) (Turned (refusalOf k)) ≡ Taken z next → next ≤ at + mostBytes k
-    ranged n place f true a g = let same : place ≡ next = cc in omega (arith, read-ends bytes at n place f, kind-bytes k n a)
-    ranged n place f false a g = let h : _≡_ {A = ℕ} 0 1 = cc in absurd (omega arith)
-
-    go : (x : Number) → numberAt bytes at ≡ x → byNumber k x ≡ Taken z next → next ≤ at + mostBytes k
-    go (Value n place) f g = ranged n place f (allowed k (wholeOf k n)) refl g
-    go Short f g = let h : _≡_ {A = ℕ} 0 1 = cc in absurd (omega arith)
-    go Malformed f g = let h : _≡_ {A = ℕ} 0 1 = cc in absurd (omega arith)
+one-size k bytes at next z e =
+    let f = one-found k bytes at z next e in omega (arith, read-ends bytes at (f .n) next (f .value), kind-bytes k (f .n) (f .ranged))
 
 -- The most bytes of numbers of some kinds
 unfoldable pub mostOf : List Kind → ℕ
@@ -88,14 +76,11 @@ mostOf (k ∷ ks) = mostBytes k + mostOf ks
 
 -- Numbers that were read whole
 pub numbers-size : (ks : List Kind) (bytes : List ℕ) (at next : ℕ) → numbersAt ks bytes at .read ≡ Ended next → next ≤ at + mostOf ks
-unfolding numbersAt mostOf
-numbers-size [] bytes at next e = let same : at ≡ next = cc in omega arith
-numbers-size (k ∷ ks) bytes at next e = go (oneAt k bytes at) refl e (λ place. numbers-size ks bytes place next)
-  where
-    go : (o : One) → oneAt k bytes at ≡ o → byOne (numbersAt ks bytes) o .read ≡ Ended next
-        → ((place : ℕ) → numbersAt ks bytes place .read ≡ Ended next → next ≤ place + mostOf ks) → next ≤ at + (mostBytes k + mostOf ks)
-    go (Taken z place) f g ih = omega (arith, one-size k bytes at place z f, ih place g)
-    go (Turned r) f g ih = let h : _≡_ {A = ℕ} 0 1 = cc in absurd (omega arith)
+unfolding mostOf
+numbers-size ks bytes at next e =
+    let end = numbers-keep (λ l place. place + mostOf l ≤ at + mostOf ks) bytes
+    (λ k l here there z t h. omega (arith, one-size k bytes here there z t)) ks at next (omega arith) e in
+    omega arith
 
 -- The most bytes of two lists, of a run, of R, of a vector, of n vectors, of a record behind the opening
 most-append : (a b : List Kind) → mostOf (a ++ b) ≡ mostOf a + mostOf b

@@ -1,18 +1,20 @@
 -- A vector whose numbers are each in the range of their kind is a vector in range. Row by row: the diagonal's run and the run right of it
 -- stand in front, and behind them the runs of the rows below.
-use Prim.Native.Nat.{ℕ, zero, suc, _+_, _*_, _≤_, _<_}
-use mathlib.Core.Path.{_≡_, sym, _∙_}
-use mathlib.Core.Bool.{true}
+use Prim.Native.Nat.{ℕ, zero, suc, _+_, _-_, _*_, _≤_, _<_}
+use mathlib.Core.Path.{_≡_, refl, sym, _∙_}
+use mathlib.Core.Bool.{Bool, true, false}
 use mathlib.Core.List.{List, [], _∷_, _++_}
 use native.Mathlib.Omega.{arith}
 use native.Mathlib.Nat.{suc-mul, mul-suc}
+use lib.Dec.{ltb}
+use borrow.Author.Tests.{ltb-true, ltb-false}
 use lib.ListN.{length, getD, take, drop, replicate, length-append, length-take, length-drop, length-replicate}
 use lib.ListN.{getD-replicate, List·getD-append}
 use lib.Seq.{getD-drop, drop-drop}
 use lib.IntN.{ℤ, pos}
 use Rattle.model.specs.Block.{Every, Within, BothWithin, RowsInRange, VectorInRange, mostEntry, mostReceived, mostPrior}
 use Rattle.block.specs.Table.{allowed}
-use Rattle.block.specs.Reading.{run, kindsOf, matrixRuns, runsOf}
+use Rattle.block.specs.Reading.{run, kindsOf, matrixRuns, runsOf, vectorSize}
 use Rattle.block.specs.Contents.{complexes, rowsFrom, rowsOf}
 use Rattle.block.specs.declared.Kind.{Kind}
 use Rattle.block.specs.declared.Kind.the-variants.{DiagonalEntry, RightPart, ReceivedPart, BitPrior}
@@ -21,7 +23,7 @@ use Rattle.block.specs.declared.Part.the-variants.{Vector}
 use Rattle.block.proofs.Ranges.{Plain, between-plain, between-signed}
 use Rattle.block.proofs.Runs.{vector-numbers}
 use Rattle.block.proofs.Parts.{AllAllowed, allowed-length, plain-most}
-use Rattle.block.proofs.Places.{complexes-count, rows-from-count, rows-count}
+use Rattle.block.proofs.Places.{complexes-count, rows-from-count, row-start, rows-count}
 
 -- Numbers that are all in range, by their place
 pub allowed-at : (ks : List Kind) (zs : List ℤ) → AllAllowed ks zs → (i : ℕ) (d : Kind) → i < length ks
@@ -126,21 +128,73 @@ rows-ranged rest (suc m) q r y p a b c l =
           (rw length-drop (omega arith)),
     )
 
+-- R's numbers
+entries-within : (rest : List Run) (m : ℕ) (zs : List ℤ) → AllAllowed (kindsOf (matrixRuns m ++ rest)) zs → FirstWithin mostEntry (m * m) zs
+entries-within rest zero zs a i h = absurd (omega arith)
+entries-within rest (suc m) zs a zero h = plain-most (diagonal-ranged rest m zs a)
+entries-within rest (suc m) zs a (suc i) h = go (ltb i (2 * m)) refl (entries-within rest m (drop (1 + 2 * m) zs) (row-behind rest m zs a))
+  where
+    go : (b : Bool) → ltb i (2 * m) ≡ b → FirstWithin mostEntry (m * m) (drop (1 + 2 * m) zs) → Within mostEntry (getD zs (suc i) (pos 0))
+    go true e later =
+        let k = ltb-true i (2 * m) e in
+        let place : 1 + i ≡ suc i = omega arith in
+        rw (getD-drop, place) at (right-ranged rest m zs a i k)
+    go false e later =
+        let k = ltb-false i (2 * m) e in
+        let place : 1 + 2 * m + (i - 2 * m) ≡ suc i = omega arith in
+        rw (getD-drop, place) at (later (i - 2 * m) (omega (arith, suc-mul m (suc m), mul-suc m m)))
+
+-- and its diagonal's, row by row
+diagonal-plain : (rest : List Run) (m : ℕ) (zs : List ℤ) → AllAllowed (kindsOf (matrixRuns m ++ rest)) zs → (i : ℕ) → i < m
+    → Plain 1 mostEntry (getD zs (i * (2 * m - i)) (pos 0))
+diagonal-plain rest zero zs a i h = absurd (omega arith)
+diagonal-plain rest (suc m) zs a zero h =
+    let e : 0 * (2 * suc m - 0) ≡ 0 = omega arith in
+    rw e (diagonal-ranged rest m zs a)
+diagonal-plain rest (suc m) zs a (suc i) h =
+    let later = diagonal-plain rest m (drop (1 + 2 * m) zs) (row-behind rest m zs a) i (omega arith) in
+    rw (getD-drop, row-start m i (omega arith)) at later
+
+-- A vector's numbers by their places: those of R, its diagonal's plain and not 0; those of y; the priors
+pub record Placed (m q : ℕ) (zs : List ℤ) : Type 0 where
+  pub many : length zs ≡ vectorSize m q
+  pub entries : (i : ℕ) → i < m * m → Within mostEntry (getD zs i (pos 0))
+  pub diagonal : (i : ℕ) → i < m → Plain 1 mostEntry (getD zs (i * (2 * m - i)) (pos 0))
+  pub received : (i : ℕ) → i < 2 * m → Within mostReceived (getD zs (m * m + i) (pos 0))
+  pub priors : (i : ℕ) → i < m * q → Within mostPrior (getD zs (m * m + 2 * m + i) (pos 0))
+
 -- A vector
-pub vector-ranged : (m q : ℕ) (zs : List ℤ) → AllAllowed (kindsOf (runsOf (Vector m q))) zs → VectorInRange m q (rowsOf m q zs)
-unfolding runsOf rowsOf
-vector-ranged m q zs a =
-    let priors = run BitPrior (m * q) ∷ [] in
-    let y = drop (m * m) zs in
-    let p = drop (m * m + 2 * m) zs in
-    let many = allowed-length (kindsOf (runsOf (Vector m q))) zs a ∙ vector-numbers m q in
-    let b = matrix-behind (run ReceivedPart (2 * m) ∷ priors) m zs a in
-    let c = rw drop-drop at (behind ReceivedPart (2 * m) priors y b) in
-    record {
-      streams = rows-count m q zs;
-      ranged =
-          rows-ranged (run ReceivedPart (2 * m) ∷ priors) m q zs y p a
-          (λ i h. between-signed mostReceived (getD y i (pos 0)) (in-front ReceivedPart (2 * m) priors y b i h))
-          (λ i h. between-signed mostPrior (getD p i (pos 0)) (in-front BitPrior (m * q) [] p c i h))
-          (rw length-drop (omega arith));
-    }
+module _ (m q : ℕ) (zs : List ℤ) (a : AllAllowed (kindsOf (runsOf (Vector m q))) zs) where
+  behind-matrix : AllAllowed (kindsOf (run ReceivedPart (2 * m) ∷ run BitPrior (m * q) ∷ [])) (drop (m * m) zs)
+  unfolding runsOf
+  behind-matrix = matrix-behind (run ReceivedPart (2 * m) ∷ run BitPrior (m * q) ∷ []) m zs a
+
+  received-within : FirstWithin mostReceived (2 * m) (drop (m * m) zs)
+  received-within i h =
+      between-signed mostReceived (getD (drop (m * m) zs) i (pos 0))
+      (in-front ReceivedPart (2 * m) (run BitPrior (m * q) ∷ []) (drop (m * m) zs) behind-matrix i h)
+
+  priors-within : FirstWithin mostPrior (m * q) (drop (m * m + 2 * m) zs)
+  priors-within i h =
+      between-signed mostPrior (getD (drop (m * m + 2 * m) zs) i (pos 0))
+      (in-front BitPrior (m * q) [] (drop (m * m + 2 * m) zs)
+      (rw drop-drop at (behind ReceivedPart (2 * m) (run BitPrior (m * q) ∷ []) (drop (m * m) zs) behind-matrix)) i h)
+
+  pub vector-placed : Placed m q zs
+  unfolding runsOf
+  vector-placed = record {
+    many = allowed-length (kindsOf (runsOf (Vector m q))) zs a ∙ vector-numbers m q;
+    entries = entries-within (run ReceivedPart (2 * m) ∷ run BitPrior (m * q) ∷ []) m zs a;
+    diagonal = diagonal-plain (run ReceivedPart (2 * m) ∷ run BitPrior (m * q) ∷ []) m zs a;
+    received = λ i h. rw getD-drop at (received-within i h);
+    priors = λ i h. rw getD-drop at (priors-within i h);
+  }
+
+  pub vector-ranged : VectorInRange m q (rowsOf m q zs)
+  unfolding runsOf rowsOf
+  vector-ranged = record {
+    streams = rows-count m q zs;
+    ranged =
+        rows-ranged (run ReceivedPart (2 * m) ∷ run BitPrior (m * q) ∷ []) m q zs (drop (m * m) zs) (drop (m * m + 2 * m) zs) a
+        received-within priors-within (rw length-drop (omega (arith, vector-placed .many)));
+  }

@@ -7,7 +7,7 @@ use lib.Dec.{ltb, eqb}
 use lib.ListN.{length, getD, replicate}
 use lib.Seq.{sets}
 use lib.IntN.{ℤ, pos, natAbs}
-use Rattle.model.specs.Block.{mostStreams}
+use Rattle.model.specs.Block.{mostStreams, mostWidth}
 use Rattle.wire.specs.Reading.{numberAt}
 use Rattle.wire.specs.Folding.{unfolded}
 use Rattle.wire.specs.declared.Number.{Number}
@@ -90,7 +90,7 @@ runsOf (Vector m q) = matrixRuns m ++ run ReceivedPart (2 * m) ∷ run BitPrior 
 abbrev pub Small : Part → Type 0
 Small First = Unit {0}
 Small (Sizes m) = Unit {0}
-Small (Vector m q) = (m ≤ mostStreams) × (q ≤ 6)
+Small (Vector m q) = (m ≤ mostStreams) × (q ≤ mostWidth)
 
 abbrev pub partAt : Part → List ℕ → ℕ → Parse
 partAt p bytes at = numbersAt (kindsOf (runsOf p)) bytes at

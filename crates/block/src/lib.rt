@@ -329,7 +329,7 @@ fn read_part(bytes: &[u8], at: usize, part: Part, numbers: &mut [i32; MOST], fro
 }
 
 // A count, of a number that is none below 0.
-fn count_of(z: i32) -> usize
+pub fn count_of(z: i32) -> usize
     ensures { λ r. ⌜ r ≡ natAbs z ⌝ }
 {
     integers::magnitude(z as i64) as usize

@@ -1,15 +1,15 @@
 -- A list filled place by place: after its first k places, for every k, those hold their values and the others are as before.
 use Prim.Native.Nat.{ℕ, zero, suc, _+_, _<_, _≤_}
-use mathlib.Core.Path.{_≡_, refl, sym, _∙_, ap₂, subst}
+use mathlib.Core.Path.{_≡_, refl, sym, _∙_, ap, ap₂, subst}
 use mathlib.Core.Logic.{⊎-elim}
 use mathlib.Core.List.{List}
-use native.Mathlib.Nat.{eq-or-lt-of-le, le-of-suc-le-suc, not-suc-le-zero, ne-of-lt, ne-of-gt}
+use native.Mathlib.Nat.{add-suc, eq-or-lt-of-le, le-of-suc-le-suc, not-suc-le-zero, ne-of-lt, ne-of-gt}
 use native.Mathlib.Decide.{decLt}
 use native.Mathlib.Numerals.{add-one}
 use native.Mathlib.Omega.{arith}
 use lib.ListN.{length, getD, set, length-set}
 use lib.Seq.{getD-set-same, getD-set-other}
-use Rattle.metric.specs.Parts.{filled}
+use Rattle.metric.specs.Parts.{filled, filledFrom}
 
 module _ {A : Type 0} where
   -- One place more
@@ -53,3 +53,41 @@ module _ {A : Type 0} where
       go : Dec (i < k) → P (getD (filled f k l) i d)
       go (yes h) = subst P (sym (filled-at f k l i d h room)) (new i)
       go (no h) = subst P (sym (filled-rest f k l i d (omega arith))) (old i)
+
+  -- From a place on, one place more
+  pub from-more : (at : ℕ) (f : ℕ → A) (k : ℕ) (l : List A) → set (filledFrom at f k l) (at + k) (f k) ≡ filledFrom at f (k + 1) l
+  unfolding filledFrom
+  from-more at f k l = rw add-one
+
+  pub from-length : (at : ℕ) (f : ℕ → A) (k : ℕ) (l : List A) → length (filledFrom at f k l) ≡ length l
+  unfolding filledFrom
+  from-length at f zero l = refl
+  from-length at f (suc k) l = length-set (filledFrom at f k l) (at + k) (f k) ∙ from-length at f k l
+
+  -- Before the place nothing is changed
+  pub from-before : (at : ℕ) (f : ℕ → A) (k : ℕ) (l : List A) (i : ℕ) (d : A) → i < at → getD (filledFrom at f k l) i d ≡ getD l i d
+  unfolding filledFrom
+  from-before at f zero l i d h = refl
+  from-before at f (suc k) l i d h =
+      getD-set-other (filledFrom at f k l) (at + k) i (f k) d (ne-of-lt (omega arith)) ∙ from-before at f k l i d h
+
+  -- From it on each place holds its value
+  pub from-at : (at : ℕ) (f : ℕ → A) (k : ℕ) (l : List A) (i : ℕ) (d : A) → i < k → at + k ≤ length l
+      → getD (filledFrom at f k l) (at + i) d ≡ f i
+  unfolding filledFrom
+  from-at at f zero l i d h room = absurd (not-suc-le-zero h)
+  from-at at f (suc k) l i d h room =
+      ⊎-elim
+      (λ (e : i ≡ k). rw e (getD-set-same (filledFrom at f k l) (at + k) (f k) d (omega (arith, from-length at f k l))))
+      (λ (lt : i < k).
+      getD-set-other (filledFrom at f k l) (at + k) (at + i) (f k) d (ne-of-lt (omega arith)) ∙ from-at at f k l i d lt (omega arith))
+      (eq-or-lt-of-le (le-of-suc-le-suc h))
+
+  -- The places after the first ones, which are filled: together they are the first ones of more
+  pub from-join : (at : ℕ) (f g : ℕ → A) (k : ℕ) (l : List A) → ((i : ℕ) → i < k → f i ≡ g (at + i))
+      → filledFrom at f k (filled g at l) ≡ filled g (at + k) l
+  unfolding filled filledFrom
+  from-join at f g zero l same = let e : at ≡ at + 0 = omega arith in ap (λ (n : ℕ). filled g n l) e
+  from-join at f g (suc k) l same =
+      rw add-suc
+      (ap₂ (λ (x : List A) (v : A). set x (at + k) v) (from-join at f g k l (λ i h. same i (omega arith))) (same k (omega arith)))

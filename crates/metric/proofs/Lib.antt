@@ -4,5 +4,8 @@ pub mod Shifts
 pub mod Increments
 pub mod Rows
 pub mod Remainders
+pub mod Products
+pub mod Grid
+pub mod Tables
 pub mod Bridge
 pub mod Link

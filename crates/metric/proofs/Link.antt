@@ -6,7 +6,7 @@ use native.Mathlib.Omega.{arith}
 use lib.ListN.{length, getD}
 use lib.Seq.{ext-getD}
 use lib.IntN.{ℤ, pos}
-use Rattle.model.specs.Constellation.{Complex, real}
+use Rattle.model.specs.Constellation.{real}
 use Rattle.model.specs.Metric.{Row}
 use Rattle.model.specs.Soft.{upFrom}
 use Rattle.model.proofs.Lists.{length-upFrom, getD-places}
@@ -25,7 +25,8 @@ module _ (m q : ℕ) (numbers : List ℤ) (room : vectorSize m q ≤ length numb
       let count = right-count m q numbers i d h in
       let all = length-upFrom (λ j. complexAt numbers (rowStart m i + 1 + 2 * j)) 0 (m - suc i) in
       ext-getD (real 0) _ _ (omega (arith, count, all))
-      (λ j l. right-at m q numbers i d h j (real 0) (omega (arith, count)) ∙ sym (getD-places _ (real 0) (m - suc i) j (omega (arith, count))))
+      (λ j l.
+      right-at m q numbers i d h j (real 0) (omega (arith, count)) ∙ sym (getD-places _ (real 0) (m - suc i) j (omega (arith, count))))
 
   priors : row .priors ≡ part numbers (m * m + 2 * m + i * q) q
   unfolding part

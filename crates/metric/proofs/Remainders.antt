@@ -10,10 +10,12 @@ use lib.IntN.{ℤ, pos, natAbs, _+ℤ_, _-ℤ_, _*ℤ_, +ℤ-idr}
 use Rattle.model.specs.Constellation.{Complex, Bits, bitsOf, _⊕_, _⊖_, _⊗_, point}
 use Rattle.model.specs.Metric.{dot}
 use Rattle.model.specs.Soft.{upFrom}
+use Rattle.model.specs.Block.{mostWidth, mostEntry}
 use Rattle.model.proofs.Bounds.{largestAmplitude, point-bound, product-bound}
 use Rattle.model.proofs.Numbers.{length-bitsOf, take-bits, drop-bits, low-bits}
 use Rattle.constellation.specs.Axis.{complexOf}
 use Rattle.block.specs.Contents.{complexAt}
+use Rattle.metric.specs.Parts.{span}
 use Rattle.metric.specs.Rows.{rowStart, rowAt, remainderOf, VectorAsked}
 use Rattle.metric.proofs.Increments.{less-sum}
 use Rattle.metric.proofs.Rows.{entry-within}
@@ -33,10 +35,11 @@ module _ (q : ℕ) (f : ℕ → Complex) (node t : ℕ) (left : Complex) where
       bits = suc-mul u q ∙ add-comm (u * q) q
 
 -- The parts of a symbol's point
-pub point-parts : (q symbol : ℕ) → q ≤ 6 → (x y : ℤ) → complexOf x y ≡ point (bitsOf q symbol) → (natAbs x ≤ 7) × (natAbs y ≤ 7)
+pub point-parts : (q symbol : ℕ) → q ≤ mostWidth → (x y : ℤ) → complexOf x y ≡ point (bitsOf q symbol)
+    → (natAbs x < span) × (natAbs y < span)
 unfolding largestAmplitude
 point-parts q symbol h x y e =
-    let b = point-bound 6 (bitsOf q symbol) (omega (arith, length-bitsOf q symbol)) in
+    let b = point-bound mostWidth (bitsOf q symbol) (omega (arith, length-bitsOf q symbol)) in
     (omega (arith, ap (λ (z : Complex). natAbs (z .re)) e, b .re), omega (arith, ap (λ (z : Complex). natAbs (z .im)) e, b .im))
 
 -- A product by its parts
@@ -95,11 +98,15 @@ module _ (m q : ℕ) (numbers : List ℤ) (level node : ℕ) where
     rest-done h = let e : m - (level + 1) - t ≡ 0 = omega arith in sym (so-far ∙ rw e (ap₂ complexOf (+ℤ-idr a) (+ℤ-idr b)))
 
 -- The size of an entry times a point
+abbrev pub mostTerm : ℕ
+mostTerm = 2 * (mostEntry * span)
+
 pub term-few : {m q : ℕ} {numbers : List ℤ} → VectorAsked m q numbers → (level t symbol : ℕ) → level < m → t < m - (level + 1) → (x y : ℤ)
-    → complexOf x y ≡ complexAt numbers (rowStart m level + 1 + 2 * t) ⊗ point (bitsOf q symbol) → (natAbs x ≤ 28658) × (natAbs y ≤ 28658)
+    → complexOf x y ≡ complexAt numbers (rowStart m level + 1 + 2 * t) ⊗ point (bitsOf q symbol)
+    → (natAbs x ≤ mostTerm) × (natAbs y ≤ mostTerm)
 unfolding largestAmplitude
 term-few {m} {q} {numbers} asked level t symbol h k x y e =
     let z = entry-within asked level h t (omega arith) in
-    let p = point-bound 6 (bitsOf q symbol) (omega (arith, length-bitsOf q symbol, asked .bits)) in
+    let p = point-bound mostWidth (bitsOf q symbol) (omega (arith, length-bitsOf q symbol, asked .bits)) in
     let w = product-bound (complexAt numbers (rowStart m level + 1 + 2 * t)) (z .re) (z .im) p in
     (omega (arith, ap (λ (z : Complex). natAbs (z .re)) e, w .re), omega (arith, ap (λ (z : Complex). natAbs (z .im)) e, w .im))

@@ -1,20 +1,16 @@
 -- A row read off a vector's numbers is in range: its places lie within R, y and the priors, whose numbers are in range.
-use Prim.Native.Nat.{ℕ, zero, suc, _+_, _-_, _*_, _≤_, _<_}
-use mathlib.Core.Path.{_≡_, refl, sym, _∙_, ap, ap₂, subst}
-use mathlib.Core.List.{List, _++_, map}
+use Prim.Native.Nat.{ℕ, suc, _+_, _-_, _*_, _≤_, _<_}
+use mathlib.Core.Path.{_≡_, sym, _∙_, ap, ap₂, subst}
+use mathlib.Core.List.{List}
 use native.Mathlib.Nat.{le-refl, mul-le-mul, mul-add, add-mul, mul-comm, suc-mul, mul-assoc}
 use native.Mathlib.Omega.{arith}
 use lib.ListN.{length, getD}
 use lib.IntN.{ℤ, pos}
-use Rattle.model.specs.Constellation.{Bits, bitsOf}
-use Rattle.model.specs.Metric.{increment}
-use Rattle.model.specs.Soft.{upFrom}
-use Rattle.model.specs.Block.{Every, Within, BothWithin, RowInRange, mostEntry, mostReceived, mostPrior}
+use Rattle.model.specs.Block.{Within, BothWithin, RowInRange, mostWidth, mostEntry, mostReceived, mostPrior}
 use Rattle.model.proofs.Lists.{length-upFrom, every-upFrom}
-use Rattle.model.proofs.Bounds.{largestAmplitude, largestTerm, largestResidual, largestIncrement, increment-bound, increment-rises}
 use Rattle.metric.specs.Parts.{part}
 use Rattle.block.specs.Contents.{complexAt}
-use Rattle.metric.specs.Rows.{rowStart, rowAt, childOf, VectorAsked}
+use Rattle.metric.specs.Rows.{rowStart, rowAt, VectorAsked}
 
 -- Row l's numbers end within R
 row-ends : (l k : ℕ) → l * (2 * (l + suc k) - l) + 2 * k + 1 ≤ (l + suc k) * (l + suc k)
@@ -33,17 +29,12 @@ row-end m l h =
     let e : m ≡ l + suc (m - suc l) = omega arith in
     subst (λ (x : ℕ). l * (2 * x - l) + 2 * (m - suc l) + 1 ≤ x * x) (sym e) (row-ends l (m - suc l))
 
--- The largest increment: two parts of a residual within 231,374, and six priors
-pub largest-increment : largestIncrement 6 3 ≡ 2 * (231374 * 231374) + 6 * mostPrior
-unfolding largestIncrement largestResidual largestTerm largestAmplitude
-largest-increment = refl
-
 module _ {m q : ℕ} {numbers : List ℤ} (asked : VectorAsked m q numbers) (level : ℕ) (inside : level < m) where
   -- The sizes that the program computes with
   pub square-few : m * m ≤ 16
   square-few = omega (arith, mul-le-mul (asked .streams) (asked .streams))
 
-  pub priors-few : level * q ≤ 18
+  pub priors-few : level * q ≤ 3 * mostWidth
   priors-few = let h : level ≤ 3 = omega (arith, asked .streams) in omega (arith, mul-le-mul h (asked .bits))
 
   pub priors-room : m * m + 2 * m + level * q + q ≤ length numbers
@@ -84,14 +75,3 @@ module _ {m q : ℕ} {numbers : List ℤ} (asked : VectorAsked m q numbers) (lev
         every-upFrom (Within mostPrior) (λ b. getD numbers (m * m + 2 * m + level * q + b) (pos 0)) 0 q
         (λ b k. prior-within b (omega arith));
   }
-
-  -- A row's increment
-  pub row-bound : (bits : Bits) → increment q (rowAt m q numbers level) bits ≤ 2 * (231374 * 231374) + 6 * mostPrior
-  row-bound bits =
-      let later : m - suc level ≤ 3 = omega (arith, asked .streams) in
-      omega (arith, increment-bound row-in-range bits, increment-rises (asked .bits) later, largest-increment)
-
-  -- A child's partial metric exceeds its parent's by at most that
-  pub children-bound : (node partial s : ℕ) → childOf m q numbers level node partial s ≤ partial + (2 * (231374 * 231374) + 6 * mostPrior)
-  unfolding childOf
-  children-bound node partial s = omega (arith, row-bound (bitsOf q s ++ bitsOf ((m - suc level) * q) node))

@@ -1,14 +1,22 @@
 -- A child's increment by its two axes. The diagonal of R is real, so the real part of a residual depends on the real half of the
 -- symbol's label alone, and the imaginary part on the other half.
-use Prim.Native.Nat.{ℕ, zero, suc, _+_, _-_, _*_, _/_, _%_, _^_, _<_, _≤_}
+use Prim.Native.Nat.{ℕ, zero, suc, _+_, _-_, _*_, _/_, _%_, _^_, _<_}
 use mathlib.Core.Bool.{Bool}
 use mathlib.Core.List.{List, map}
 use lib.Dec.{eqb}
 use lib.IntN.{ℤ, pos, natAbs, _-ℤ_, _*ℤ_}
-use lib.ListN.{length, getD, set}
+use lib.ListN.{getD, set}
 use Rattle.model.specs.Constellation.{bitsOf, amplitude}
 use Rattle.model.specs.Metric.{priorCost}
 use Rattle.model.specs.Soft.{upFrom}
+use Rattle.model.specs.Block.{mostWidth}
+
+-- The most bits of an axis label, and how many labels such an axis has
+abbrev pub axisWidth : ℕ
+axisWidth = mostWidth / 2
+
+abbrev pub span : ℕ
+span = 2 ^ axisWidth
 
 -- n numbers of a list from a place on
 unfoldable pub part : List ℤ → ℕ → ℕ → List ℤ
@@ -36,19 +44,20 @@ axisPart left diagonal priors w g = axisDistance left diagonal w g + axisCost pr
 unfoldable pub childMetric : ℕ → ℕ → (ℕ → ℕ) → (ℕ → ℕ) → ℕ → ℕ
 childMetric q partial re im s = partial + (re (s / 2 ^ (q / 2)) + im (s % 2 ^ (q / 2)))
 
+-- A child's partial metric from what its real label gives and its imaginary label's part
+unfoldable pub rowMetric : ℕ → List ℕ → ℕ → ℕ
+rowMetric base im b = base + getD im b 0
+
 -- A list with its first n places filled by a rule
 unfoldable pub filled : {A : Type 0} → (ℕ → A) → ℕ → List A → List A
 filled f zero l = l
 filled f (suc n) l = set (filled f n l) n (f n)
 
+-- A list with n places from a place on filled by a rule
+unfoldable pub filledFrom : {A : Type 0} → ℕ → (ℕ → A) → ℕ → List A → List A
+filledFrom at f zero l = l
+filledFrom at f (suc n) l = set (filledFrom at f n l) (at + n) (f n)
+
 -- Every entry of a list of metrics is small enough to add three of them
 abbrev pub AllSmall : List ℕ → Type 0
 AllSmall l = (i : ℕ) → getD l i 0 < 2 ^ 62
-
--- What measuring an axis asks: at most three bits, whose priors stand within the numbers; what remains and the diagonal in their ranges
-pub record AxisAsked (numbers : List ℤ) (at : ℕ) (left diagonal : ℤ) (w : ℕ) : Type 0 where
-  pub bits : w ≤ 3
-  pub place : at ≤ 48
-  pub room : at + w ≤ length numbers
-  pub remains : natAbs left < 2 ^ 30
-  pub entry : natAbs diagonal < 2 ^ 11

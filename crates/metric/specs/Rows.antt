@@ -7,14 +7,18 @@ use lib.ListN.{length, getD}
 use Rattle.model.specs.Constellation.{Complex, Bits, bitsOf, _⊖_}
 use Rattle.model.specs.Metric.{Row, dot, increment}
 use Rattle.model.specs.Soft.{upFrom}
-use Rattle.model.specs.Block.{Within, mostStreams, mostEntry, mostReceived, mostPrior}
+use Rattle.model.specs.Block.{Within, mostStreams, mostWidth, mostEntry, mostReceived, mostPrior}
 use Rattle.block.specs.Reading.{vectorSize}
 use Rattle.block.specs.Contents.{complexAt}
-use Rattle.metric.specs.Parts.{part}
+use Rattle.metric.specs.Parts.{span, part}
 
 -- Where row i's numbers of R begin, from 0: the rows before it have 2m - 1, 2m - 3, .. numbers
 abbrev pub rowStart : ℕ → ℕ → ℕ
 rowStart m i = i * (2 * m - i)
+
+-- Where the priors of row i's bits begin
+abbrev pub priorStart : ℕ → ℕ → ℕ → ℕ
+priorStart m q i = m * m + 2 * m + i * q
 
 -- Row i of a vector of m streams with q bits each
 unfoldable pub rowAt : ℕ → ℕ → List ℤ → ℕ → Row
@@ -22,7 +26,7 @@ rowAt m q numbers i = record {
   diagonal = natAbs (getD numbers (rowStart m i) (pos 0));
   right = map (λ j. complexAt numbers (rowStart m i + 1 + 2 * j)) (upFrom 0 (m - suc i));
   received = complexAt numbers (m * m + 2 * i);
-  priors = part numbers (m * m + 2 * m + i * q) q;
+  priors = part numbers (priorStart m q i) q;
 }
 
 -- What remains of y in a row after the symbols that are chosen for the streams after its own
@@ -37,7 +41,7 @@ childOf m q numbers i node d s = d + increment q (rowAt m q numbers i) (bitsOf q
 pub record VectorAsked (m q : ℕ) (numbers : List ℤ) : Type 0 where
   pub streams : m ≤ mostStreams
   pub bit : 0 < q
-  pub bits : q ≤ 6
+  pub bits : q ≤ mostWidth
   pub room : vectorSize m q ≤ length numbers
   pub entries : (i : ℕ) → i < m * m → Within mostEntry (getD numbers i (pos 0))
   pub plain : (i : ℕ) → i < m → getD numbers (rowStart m i) (pos 0) ≡ pos (natAbs (getD numbers (rowStart m i) (pos 0)))
@@ -49,13 +53,13 @@ pub record VectorAsked (m q : ℕ) (numbers : List ℤ) : Type 0 where
 pub record Factors (a b x y : ℤ) : Type 0 where
   pub entry-re : natAbs a ≤ mostEntry
   pub entry-im : natAbs b ≤ mostEntry
-  pub point-re : natAbs x ≤ 7
-  pub point-im : natAbs y ≤ 7
+  pub point-re : natAbs x < span
+  pub point-im : natAbs y < span
 
 -- What multiplying the entry of R at a place with a symbol's point asks
 pub record TermAsked (numbers : List ℤ) (place q symbol : ℕ) : Type 0 where
   pub room : place + 1 < length numbers
-  pub bits : q ≤ 6
+  pub bits : q ≤ mostWidth
   pub below : symbol < 2 ^ q
   pub real : Within mostEntry (getD numbers place (pos 0))
   pub imaginary : Within mostEntry (getD numbers (place + 1) (pos 0))

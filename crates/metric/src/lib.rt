@@ -1,15 +1,38 @@
 // The partial metrics of a node's children, measured by their two axes: an axis label's part of the squared distance and of the prior
-// cost is made once and shared by a row or a column of the constellation.
+// cost is made once for a node and shared by a row or a column of the constellation; what of it depends on the vector alone is made once
+// for the vector, in a lent table.
 ghost use mathlib.Core.Path.{_≡_};
 ghost use Prim.Native.Nat.{suc, _+_, _*_, _-_, _/_, _%_, _<_, _≤_, _^_};
 ghost use lib.IntN.{pos, natAbs, _+ℤ_, _-ℤ_, _*ℤ_};
 ghost use lib.ListN.{length, getD};
 ghost use Rattle.model.specs.Constellation.{bitsOf, point, _⊗_};
 ghost use Rattle.model.specs.Metric.{bitCost};
+ghost use Rattle.model.specs.Block.{mostWidth, mostEntry};
 ghost use Rattle.constellation.specs.Axis.{complexOf};
-ghost use Rattle.metric.specs.Parts.{part, bitOf, axisCost, axisPart, childMetric, filled, AxisAsked, AllSmall};
 ghost use Rattle.block.specs.Contents.{complexAt};
+ghost use Rattle.metric.specs.Parts.{axisWidth, span, part, bitOf, axisCost, childMetric, rowMetric, filled, filledFrom, AllSmall};
 ghost use Rattle.metric.specs.Rows.{rowAt, remainderOf, childOf, VectorAsked, Factors, TermAsked};
+ghost use Rattle.metric.specs.Tables.{tableSize, labelProduct, labelCost, entriesIn, tablePart, Tabled};
+ghost use Rattle.metric.specs.Tables.{AxisAsked, PriorsAsked, EntriesAsked};
+
+// How many labels the widest axis has.
+const SPAN: usize = 8;
+
+// The places of a vector's table: for each axis of each row a span of products and one of prior costs.
+pub const TABLE: usize = 16 * SPAN;
+
+// M and Q of a vector.
+pub struct Shape {
+    pub streams: usize,
+    pub width: usize,
+}
+
+// A node: how many streams are not chosen yet, the bits that are, as a number, and its partial metric.
+pub struct Node {
+    pub level: usize,
+    pub bits: u32,
+    pub partial: u64,
+}
 
 // Bit i, counted from the first, of a label of n bits.
 pub fn bit_at(n: usize, label: u32, i: usize) -> bool
@@ -31,65 +54,136 @@ fn bit_cost(prior: i64, bit: bool) -> u64
 }
 
 // The prior cost of an axis label of w bits, whose priors stand in the numbers from a place on.
-fn axis_cost(numbers: &[i32], at: usize, w: usize, label: u32) -> u64
-    requires { ⌜ (w ≤ 3) × (at ≤ 48) × (at + w ≤ length (now numbers)) ⌝ }
-    ensures { λ r. ⌜ (r ≡ axisCost (part (now (numbers .entry)) at w) w label) × (r ≤ 3 * 2 ^ 31) ⌝ }
+fn axis_cost(numbers: &[i32], from: usize, w: usize, label: u32) -> u64
+    requires { ⌜ PriorsAsked (now numbers) from w ⌝ }
+    ensures { λ r. ⌜ r ≡ axisCost (part (now (numbers .entry)) from w) w label ⌝ }
 {
     let mut sum: u64 = 0;
     let mut i = 0;
     while i < w {
-        let prior = numbers[at + i] as i64;
+        let prior = numbers[from + i] as i64;
         sum += bit_cost(prior, bit_at(w, label, i));
         i += 1;
     }
     sum
 }
 
-// What remains on an axis, less the diagonal entry times an amplitude.
-fn axis_residual(left: i64, diagonal: i64, amplitude: i64) -> i64
-    requires { ⌜ (natAbs left < 2 ^ 30) × (natAbs diagonal < 2 ^ 11) × (natAbs amplitude < 2 ^ 4) ⌝ }
-    ensures { λ r. ⌜ r ≡ left -ℤ diagonal *ℤ amplitude ⌝ }
+// The diagonal entry times an amplitude.
+fn axis_product(diagonal: i64, amplitude: i64) -> i32
+    requires { ⌜ (natAbs diagonal ≤ mostEntry) × (natAbs amplitude < span) ⌝ }
+    ensures { λ r. ⌜ r ≡ diagonal *ℤ amplitude ⌝ }
 {
-    left - diagonal * amplitude
+    (diagonal * amplitude) as i32
 }
 
-// What an axis label adds to the increment.
-fn axis_part(numbers: &[i32], at: usize, left: i64, diagonal: i64, w: usize, label: usize) -> u64
-    requires { ⌜ AxisAsked (now numbers) at left diagonal w × (label < 2 ^ w) ⌝ }
-    ensures { λ r. ⌜ (r ≡ axisPart left diagonal (part (now (numbers .entry)) at w) w label) × (r < 2 ^ 62) ⌝ }
-{
-    let residual = axis_residual(left, diagonal, constellation::amplitude(w, label));
-    integers::square(residual) + axis_cost(numbers, at, w, label as u32)
-}
-
-// The parts of an axis's labels.
-fn fill_axis(numbers: &[i32], at: usize, left: i64, diagonal: i64, w: usize, parts: &mut [u64; 8])
-    requires { ⌜ AxisAsked (now numbers) at left diagonal w ⌝ }
-    ensures { λ _. ⌜ now (parts .exit)
-        ≡ filled (axisPart left diagonal (part (now (numbers .entry)) at w) w) (2 ^ w) (now (parts .entry)) ⌝ }
+// The products of an axis's labels, in the table from a place on.
+fn fill_products(diagonal: i64, w: usize, at: usize, tables: &mut [i32; TABLE])
+    requires { ⌜ (natAbs diagonal ≤ mostEntry) × (w ≤ axisWidth) × (at + span ≤ tableSize) ⌝ }
+    ensures { λ _. ⌜ now (tables .exit) ≡ filledFrom at (labelProduct diagonal w) (2 ^ w) (now (tables .entry)) ⌝ }
 {
     let n: usize = 1 << w;
     let mut g = 0;
     while g < n {
-        parts[g] = axis_part(numbers, at, left, diagonal, w, g);
+        tables[at + g] = axis_product(diagonal, constellation::amplitude(w, g));
         g += 1;
     }
 }
 
-// The children's partial metrics, each place written once with its whole increment.
-fn fill_children(q: usize, partial: u64, re: &[u64; 8], im: &[u64; 8], keys: &mut [u64; 64])
-    requires { ⌜ (q ≤ 6) × (partial < 2 ^ 62) × AllSmall (now re) × AllSmall (now im) ⌝ }
+// Their prior costs, by the priors that stand in the numbers from a place on.
+fn fill_costs(numbers: &[i32], from: usize, w: usize, at: usize, tables: &mut [i32; TABLE])
+    requires { ⌜ PriorsAsked (now numbers) from w × (at + span ≤ tableSize) ⌝ }
+    ensures { λ _. ⌜ now (tables .exit) ≡ filledFrom at (labelCost (part (now (numbers .entry)) from w) w) (2 ^ w) (now (tables .entry)) ⌝ }
+{
+    let n: usize = 1 << w;
+    let mut g = 0;
+    while g < n {
+        tables[at + g] = axis_cost(numbers, from, w, g as u32) as i32;
+        g += 1;
+    }
+}
+
+// An axis's entries of the table: a span of products and one of costs.
+fn fill_entries(
+    numbers: &[i32],
+    from: usize,
+    diagonal: i64,
+    w: usize,
+    at: usize,
+    tables: &mut [i32; TABLE],
+)
+    requires { ⌜ EntriesAsked (now numbers) from diagonal w at ⌝ }
+    ensures { λ _. ⌜ now (tables .exit) ≡ entriesIn (now (tables .entry)) at diagonal (part (now (numbers .entry)) from w) w ⌝ }
+{
+    fill_products(diagonal, w, at, tables);
+    fill_costs(numbers, from, w, at + SPAN, tables);
+}
+
+// What depends on the vector alone: for each axis of each row, the diagonal entry times the amplitude of each axis label, and each label's
+// prior cost.
+pub fn prepare(shape: Shape, numbers: &[i32], tables: &mut [i32; TABLE])
+    requires { ⌜ VectorAsked (shape .streams) (shape .width) (now numbers) × (length (now tables) ≡ tableSize) ⌝ }
+    ensures { λ _. ⌜ Tabled (shape .streams) (shape .width) (now (numbers .entry)) (now (tables .exit)) ⌝ }
+{
+    let m = shape.streams;
+    let q = shape.width;
+    let w = q - q / 2;
+    let mut row = 0;
+    while row < m {
+        let diagonal = element(numbers, row * (2 * m - row));
+        let priors = m * m + 2 * m + row * q;
+        let at = row * (4 * SPAN);
+        fill_entries(numbers, priors, diagonal, w, at, tables);
+        fill_entries(numbers, priors + w, diagonal, q / 2, at + 2 * SPAN, tables);
+        row += 1;
+    }
+}
+
+// What an axis label adds to the increment, by its two entries of the table.
+fn axis_part(left: i64, product: i32, cost: i32) -> u64
+    requires { ⌜ (natAbs left < 2 ^ 30) × (natAbs product < 2 ^ 30) × (cost ≡ pos (natAbs cost)) ⌝ }
+    ensures { λ r. ⌜ r ≡ natAbs (left -ℤ product) * natAbs (left -ℤ product) + natAbs cost ⌝ }
+{
+    integers::square(less(left, product as i64)) + cost as u64
+}
+
+// The parts of an axis's labels.
+fn fill_axis(tables: &[i32; TABLE], at: usize, left: i64, w: usize, parts: &mut [u64; SPAN])
+    requires { ⌜ AxisAsked (now tables) at left w ⌝ }
+    ensures { λ _. ⌜ now (parts .exit) ≡ filled (tablePart (now (tables .entry)) at left) (2 ^ w) (now (parts .entry)) ⌝ }
+{
+    let n: usize = 1 << w;
+    let mut g = 0;
+    while g < n {
+        parts[g] = axis_part(left, tables[at + g], tables[at + SPAN + g]);
+        g += 1;
+    }
+}
+
+// A row of the constellation, the n children with one real label, from a place of the keys on: `base` is what they share.
+fn fill_row(base: u64, im: &[u64; SPAN], n: usize, at: usize, keys: &mut [u64])
+    requires { ⌜ (base < 2 ^ 63) × AllSmall (now im) × (n ≤ span) × (at + n ≤ length (now keys)) ⌝ }
+    ensures { λ _. ⌜ now (keys .exit) ≡ filledFrom at (rowMetric base (now (im .entry))) n (now (keys .entry)) ⌝ }
+{
+    let mut b = 0;
+    while b < n {
+        keys[at + b] = base + im[b];
+        b += 1;
+    }
+}
+
+// The children's partial metrics, row by row of the constellation, each place written once with its whole increment.
+fn fill_children(q: usize, partial: u64, re: &[u64; SPAN], im: &[u64; SPAN], keys: &mut [u64])
+    requires { ⌜ (q ≤ mostWidth) × (partial < 2 ^ 62) × AllSmall (now re) × AllSmall (now im) × (2 ^ q ≤ length (now keys)) ⌝ }
     ensures { λ _. ⌜ now (keys .exit)
         ≡ filled (childMetric q partial (λ a. getD (now (re .entry)) a 0) (λ b. getD (now (im .entry)) b 0)) (2 ^ q)
         (now (keys .entry)) ⌝ }
 {
-    let n: usize = 1 << q;
-    let mut s = 0;
-    while s < n {
-        let a = constellation::real_label(q, s);
-        let b = constellation::imaginary_label(q, s);
-        keys[s] = partial + (re[a] + im[b]);
-        s += 1;
+    let rows: usize = 1 << (q - q / 2);
+    let n: usize = 1 << (q / 2);
+    let mut a = 0;
+    while a < rows {
+        fill_row(partial + re[a], im, n, a * n, keys);
+        a += 1;
     }
 }
 
@@ -103,7 +197,7 @@ fn element(numbers: &[i32], i: usize) -> i64
 
 // The symbol of q bits of a node that has `place` bits after it.
 fn symbol_at(node: u32, q: usize, place: usize) -> usize
-    requires { ⌜ (q ≤ 6) × (place ≤ 18) ⌝ }
+    requires { ⌜ (q ≤ mostWidth) × (place < 64) ⌝ }
     ensures { λ r. ⌜ r ≡ node / 2 ^ place % 2 ^ q ⌝ }
 {
     (node as usize >> place) & ((1 << q) - 1)
@@ -169,26 +263,22 @@ fn remainder(numbers: &[i32], m: usize, q: usize, level: usize, node: u32) -> co
     constellation::Point { re, im }
 }
 
-// The partial metrics of the children of a node at stream `level`, by rising symbol: the first 2^q places of `keys`.
-pub fn children(
-    numbers: &[i32],
-    m: usize,
-    q: usize,
-    level: usize,
-    node: u32,
-    partial: u64,
-    keys: &mut [u64; 64],
-)
-    requires { ⌜ VectorAsked m q (now numbers) × (level < m) × (partial < 2 ^ 61) ⌝ }
-    ensures { λ _. ⌜ now (keys .exit) ≡ filled (childOf m q (now (numbers .entry)) level node partial) (2 ^ q) (now (keys .entry)) ⌝ }
+// The partial metrics of a node's children by rising symbol: the first 2^Q places of `keys`.
+pub fn children(shape: Shape, node: Node, numbers: &[i32], tables: &[i32; TABLE], keys: &mut [u64])
+    requires { ⌜ VectorAsked (shape .streams) (shape .width) (now numbers)
+        × Tabled (shape .streams) (shape .width) (now numbers) (now tables)
+        × (0 < node .level) × (node .level ≤ shape .streams) × (node .partial < 2 ^ 61) × (2 ^ shape .width ≤ length (now keys)) ⌝ }
+    ensures { λ _. ⌜ now (keys .exit)
+        ≡ filled (childOf (shape .streams) (shape .width) (now (numbers .entry)) (node .level - 1) (node .bits) (node .partial))
+        (2 ^ shape .width) (now (keys .entry)) ⌝ }
 {
-    let left = remainder(numbers, m, q, level, node);
-    let diagonal = element(numbers, level * (2 * m - level));
-    let priors = m * m + 2 * m + level * q;
-    let w = q - q / 2;
-    let mut re = [0u64; 8];
-    let mut im = [0u64; 8];
-    fill_axis(numbers, priors, left.re, diagonal, w, &mut re);
-    fill_axis(numbers, priors + w, left.im, diagonal, q / 2, &mut im);
-    fill_children(q, partial, &re, &im, keys);
+    let q = shape.width;
+    let level = node.level - 1;
+    let left = remainder(numbers, shape.streams, q, level, node.bits);
+    let at = level * (4 * SPAN);
+    let mut re = [0u64; SPAN];
+    let mut im = [0u64; SPAN];
+    fill_axis(tables, at, left.re, q - q / 2, &mut re);
+    fill_axis(tables, at + 2 * SPAN, left.im, q / 2, &mut im);
+    fill_children(q, node.partial, &re, &im, keys);
 }

@@ -95,6 +95,10 @@ pub record BothWithin (n : ℕ) (z : Complex) : Type 0 where
 abbrev pub mostStreams : ℕ
 mostStreams = 4
 
+-- the most bits of a symbol
+abbrev pub mostWidth : ℕ
+mostWidth = 6
+
 abbrev pub mostVectors : ℕ
 mostVectors = 64
 

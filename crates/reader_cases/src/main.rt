@@ -1,38 +1,15 @@
-// Runs the record reader on test records. Standard input has them one after another, each behind its length: two bytes, the low one
-// first. For each a line is written: `refused` and the refusal's number, or `accepted`, how many whole numbers the record has and their
-// checksum. What the lines must be comes from a second reader, in Rust.
+// Runs the record reader on the test records of standard input (crate cases). For each a line is written: `refused` and the refusal's
+// number, or `accepted`, how many whole numbers the record has and their checksum. What the lines must be comes from a second reader, in
+// Rust.
 use block::Read;
+use cases::Case;
 use libc::STDIN_FILENO;
 use libc::STDOUT_FILENO;
 ghost use mathlib.Core.Path.{_≡_};
 ghost use Prim.Native.Nat.{_<_, _≤_, min};
 ghost use lib.IntN.{natAbs};
 ghost use lib.ListN.{length};
-ghost use Rattle.reader_cases.specs.Cases.{caseAt, Within};
 ghost use Rattle.reader_cases.specs.Numbers.{countOf, moved, mixed, checksumOf};
-
-// The bytes of a test record, from one place of the input up to another; or the input ends before.
-enum Case {
-    Bytes(usize, usize),
-    CutOff,
-}
-
-// The test record whose length stands at a place of the input.
-fn case_at(input: &[u8], at: usize) -> Case
-    requires { ⌜ at < length (now input) ⌝ }
-    ensures { λ r. ⌜ (r ≡ caseAt (now (input .entry)) at) × Within at (length (now (input .entry))) r ⌝ }
-{
-    let high = at + 1;
-    if input.len() <= high {
-        return Case::CutOff;
-    }
-    let length = input[at] as usize + 256 * (input[high] as usize);
-    let start = at + 2;
-    if input.len() - start < length {
-        return Case::CutOff;
-    }
-    Case::Bytes(start, start + length)
-}
 
 // M, Q or N of an accepted record. It is at most what document 01 allows; that it is no more is seen to here too, so that this program
 // rests on nothing that is proved of the reader.
@@ -82,12 +59,6 @@ fn checksum(numbers: &[i32; 3077], n: usize) -> u64
     sum
 }
 
-fn print_refused(number: u32) {
-    io::write_all(STDOUT_FILENO, b"refused ");
-    io::print_decimal(STDOUT_FILENO, number as u64);
-    io::write_all(STDOUT_FILENO, b"\n");
-}
-
 fn print_accepted(count: usize, sum: u64) {
     io::write_all(STDOUT_FILENO, b"accepted ");
     io::print_decimal(STDOUT_FILENO, count as u64);
@@ -106,7 +77,7 @@ fn run(record: &[u8], numbers: &mut [i32; 3077])
             let n = count(numbers);
             print_accepted(n, checksum(numbers, n));
         }
-        Read::Refused(refusal) => print_refused(block::refusal_number(refusal)),
+        Read::Refused(refusal) => cases::print_refused(block::refusal_number(refusal)),
     }
 }
 
@@ -115,7 +86,7 @@ fn run_all(input: &[u8]) {
     let mut numbers = [0i32; 3077];
     let mut at = 0;
     while at < input.len() {
-        match case_at(input, at) {
+        match cases::case_at(input, at) {
             Case::Bytes(start, end) => {
                 run(&input[start..end], &mut numbers);
                 at = end;

@@ -4,7 +4,7 @@ use Prim.Native.Nat.{ℕ, _*_, _^_, _≤_, _<_}
 use mathlib.Core.Path.{_≡_, sym, _∙_, ap, ap₂, subst}
 use mathlib.Core.Bool.{Bool}
 use mathlib.Core.List.{List, [], _∷_, _++_, map, reverseAux}
-use native.Mathlib.Nat.{le-refl, le-trans, mul-le-mul}
+use native.Mathlib.Nat.{le-trans, mul-le-mul}
 use native.Mathlib.Omega.{arith}
 use lib.IntN.{ℤ}
 use lib.ListN.{length, drop, length-reverseAux}
@@ -12,27 +12,17 @@ use lib.Pow.{pow-mono}
 use Rattle.model.specs.Constellation.{Bits}
 use Rattle.model.specs.Metric.{Row, Vector, metric, labelBits, priorAt}
 use Rattle.model.specs.Soft.{places, softValue}
-use Rattle.model.specs.Block.{Block, vectorOf, Answer, answer, RowsInRange, VectorInRange, InRange, mostStreams}
+use Rattle.model.specs.Block.{Answer, answer, RowsInRange, mostStreams, mostWidth}
 use Rattle.model.specs.Search.{search, valueAt, outcome}
 use Rattle.model.proofs.Lists.{map-upFrom}
 use Rattle.model.proofs.Search.{outcome-is}
-use Rattle.model.proofs.Bounds.{width-small, width-positive, metric-bound, largestMetric, largest-rises, metric-largest}
+use Rattle.model.proofs.Bounds.{metric-bound, largestMetric, largest-rises, metric-largest}
 use Rattle.metric.specs.Parts.{filled}
-use Rattle.search.specs.Program.{above, mostWidth, mostBits, mostChildren, Ranged}
+use Rattle.search.specs.Program.{above, mostBits, mostChildren, Ranged}
 use Rattle.search.specs.Program.{Taken, Kept, keptOf, fresh, below, valueOf, answerOf, replied}
 use Rattle.search.proofs.Arrays.{filled-is}
 use Rattle.search.proofs.Agree.{Agrees}
 use Rattle.search.proofs.Below.{search-agrees}
-
--- A vector of a block in range is in range
-pub block-ranged : (b : Block) → InRange b → (rows : List Row) → VectorInRange (b .streams) (b .width) rows → Ranged (vectorOf b rows)
-block-ranged b h rows r = record {
-  bit = width-positive (b .width) (h .width);
-  bits = width-small (b .width) (h .width);
-  stream = omega arith;
-  streams = omega arith;
-  rows = r .ranged;
-}
 
 -- The largest metric of so many rows is below the sentinel
 pub largest-low : (q m : ℕ) → q ≤ mostWidth → m ≤ mostStreams → largestMetric q m < above
@@ -56,10 +46,6 @@ module _ (v : Vector) (r : Ranged v) where
   -- Some of the streams have at most 24 bits
   pub part-few : (m : ℕ) → m ≤ length (v .rows) → m * v .width ≤ mostBits
   part-few m h = omega (arith, mul-le-mul (le-trans h (r .streams)) (r .bits))
-
-  -- So has a label
-  pub few-bits : labelBits v ≤ mostBits
-  few-bits = part-few (length (v .rows)) (le-refl _)
 
   -- A node has at most 64 children
   pub few-children : 2 ^ v .width ≤ mostChildren

@@ -1,18 +1,18 @@
 -- Laws of the arrays. A filled place holds its value and the others what they held. The first smallest key is at most each key and less
 -- than each earlier one, and only the first n keys decide which it is; while fewer than n keys are taken, it is not a taken one.
-use Prim.Native.Nat.{ℕ, zero, suc, _+_, _≤_, _<_}
+use Prim.Native.Nat.{ℕ, zero, suc, _+_, _-_, _≤_, _<_}
 use mathlib.Core.Path.{_≡_, refl, sym, ap, ap₂, _∙_}
 use mathlib.Core.Bool.{Bool, true, false, cond}
 use mathlib.Core.List.{List, [], _∷_, _++_, map}
 use mathlib.Core.Logic.{_⊎_, inl, inr, ⊎-elim, _≢_}
 use native.Mathlib.Decide.{ℕ-discrete}
-use native.Mathlib.Nat.{eq-or-lt-of-le, le-of-suc-le-suc, not-suc-le-zero, ne-of-lt, ne-of-gt, le-refl}
+use native.Mathlib.Nat.{eq-or-lt-of-le, le-of-suc-le-suc, not-suc-le-zero, ne-of-lt, le-refl}
 use native.Mathlib.Numerals.{add-one}
 use native.Mathlib.Omega.{arith}
 use lib.Dec.{ltb}
 use borrow.Author.Tests.{ltb-true, ltb-false, lt-ltb, le-ltb}
-use lib.ListN.{length, getD, set, take, drop, length-set, take-append-drop}
-use lib.Seq.{getD-set-same, getD-set-other, take-suc-set, drop-set-lt}
+use lib.ListN.{length, getD, set, take, drop, length-set, length-append, length-drop, take-append-drop, List·getD-append}
+use lib.Seq.{getD-set-same, getD-set-other, take-suc-set, drop-set-lt, getD-take, length-take-le}
 use Rattle.model.specs.Soft.{upFrom}
 use Rattle.metric.specs.Parts.{filled}
 use Rattle.metric.proofs.Filled.{filled-length}
@@ -206,3 +206,27 @@ held-set {top} {n} {most} {k} {keys} h s = record {
   each = λ i l. set-each (λ (x : ℕ). (x ≤ most) ⊎ (x ≡ top)) keys s top i (inr refl) (h .each i l);
   left = omega (arith, h .left, untaken-set top keys s top n);
 }
+
+untaken-alike : {a b : List ℕ} (top n k : ℕ) → k ≤ n → Same n a b → untaken top a k ≡ untaken top b k
+unfolding untaken
+untaken-alike top n zero h s = refl
+untaken-alike top n (suc k) h s =
+    ap₂ (λ (x y : ℕ). cond (ltb x top) 1 0 + y) (s .keys k (omega arith)) (untaken-alike top n k (omega arith) s)
+
+pub held-same : {top n most k : ℕ} {a b : List ℕ} → Same n a b → Held top n most k a → Held top n most k b
+held-same {top} {n} {most} {k} {a} {b} s h = record {
+  each = λ i l. rw (← s .keys i l) (h .each i l);
+  left = rw (← untaken-alike top n n (le-refl n) s) (h .left);
+}
+
+-- Another tail behind the first n keys
+pub same-front : (n : ℕ) (a tail : List ℕ) → n ≤ length a → Same n a (take n a ++ tail)
+same-front n a tail h = record {
+  wide-a = h;
+  wide-b = omega (arith, length-append (take n a) tail, length-take-le n a h);
+  keys = λ i l. sym (List·getD-append (take n a) tail 0 i (omega (arith, length-take-le n a h)) ∙ getD-take n a i 0 l);
+}
+
+-- The part of an array from its n-th place on
+pub part-length : (n : ℕ) (l : List ℕ) → length (take (length l - n) (drop n l)) ≡ length l - n
+part-length n l = length-take-le (length l - n) (drop n l) (omega (arith, length-drop n l))

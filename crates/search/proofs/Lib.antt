@@ -5,11 +5,14 @@ pub mod Agree
 pub mod Below
 pub mod Answer
 pub mod Bounds
+pub mod Minima
 pub mod Steps
 pub mod Turns
 pub mod Early
 pub mod Limits
+pub mod Leaves
 pub mod Rows
 pub mod Verdicts
 pub mod Search
 pub mod Values
+pub mod Records

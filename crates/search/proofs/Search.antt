@@ -1,34 +1,37 @@
 -- The search below a node by its steps: the state before a child is tried, and what each verdict on that child makes of it.
-use Prim.Native.Nat.{ℕ, _+_, _-_, _*_, _^_, _≤_, _<_}
-use mathlib.Core.Path.{_≡_, refl, sym, _∙_, ap, subst}
+use Prim.Native.Nat.{ℕ, suc, _+_, _-_, _*_, _^_, _≤_, _<_}
+use mathlib.Core.Path.{_≡_, refl, sym, _∙_, ap, ap₂, subst}
 use mathlib.Core.Bool.{Bool, true, false}
-use mathlib.Core.List.{List}
-use native.Mathlib.Nat.{le-of-lt, le-trans, mul-le-mul, lt-of-le-of-lt}
+use mathlib.Core.List.{List, _++_}
+use native.Mathlib.Nat.{suc-mul, le-of-lt, le-trans, le-refl, mul-le-mul, lt-of-le-of-lt}
 use native.Mathlib.Omega.{arith}
 use lib.Dec.{ltb}
 use borrow.Author.Tests.{ltb-true, ltb-false}
-use lib.ListN.{length, getD, set}
+use lib.ListN.{length, getD, take, length-set}
 use lib.IntN.{ℤ}
 use Rattle.model.specs.Metric.{Vector, labelBits}
 use Rattle.block.proofs.Places.{rows-count}
 use Rattle.metric.specs.Parts.{filled}
+use Rattle.metric.proofs.Filled.{filled-length}
 use Rattle.metric.specs.Rows.{childOf as rowKey}
 use Rattle.search.specs.Arrays.{leastFirst}
 use Rattle.search.specs.Program.{above, largestPartial, Ranged, Taken, Kept, keptOf, passing, beyond, noted, childOf, below, restOf}
-use Rattle.search.specs.Limits.{vectorAt, Limited, WalkAsked, verdictOf, verdictBy}
+use Rattle.search.specs.Limits.{vectorAt, Limited, NextChild, WalkAsked, verdictOf, verdictBy}
 use Rattle.search.specs.declared.Verdict.{Verdict}
 use Rattle.search.specs.declared.Verdict.the-variants.{Ended, Cut, Enter, Stop}
-use Rattle.search.proofs.Arrays.{Held, held-least, held-set}
+use Rattle.search.proofs.Arrays.{Held, held-least, held-set, held-same, same-front}
 use Rattle.search.proofs.Answer.{part-few, few-children}
 use Rattle.search.proofs.Bounds.{kept-falls, chosen-by, symbol-inside, keys-held, partial-low, child-placed, child-by}
-use Rattle.search.proofs.Turns.{rest-start, rest-done, rest-cut, rest-halted, rest-stopped, rest-onward}
+use Rattle.search.proofs.Turns.{rest-start, rest-same, rest-done, rest-cut, rest-halted, rest-stopped, rest-onward}
 use Rattle.search.proofs.Early.{rest-beyond}
 use Rattle.search.proofs.Rows.{ranged, keys-by}
 use Rattle.search.proofs.Verdicts.{verdict-by, Says, says}
 
--- Before a child is tried, `tried` of them were: what the search below the node makes of `from` is what is left to make of k
+-- Before a child is tried, `tried` of them were: what the search below the node makes of `from` is what is left to make of k. The keys
+-- have room for the levels below
 pub record Searching (m q clip : ℕ) (numbers : List ℤ) (allowance level node partial : ℕ) (from : Kept) (tried : ℕ) (keys : List ℕ)
     (k : Kept) (limits : List ℕ) (widest : ℕ) : Type 0 where
+  pub room : level * 2 ^ q ≤ length keys
   pub lowest : k .taken .best ≤ above
   pub running : k .stopped ≡ false
   pub held : Held above (2 ^ q) (largestPartial (vectorAt m q clip numbers) (level - 1)) tried keys
@@ -36,17 +39,21 @@ pub record Searching (m q clip : ℕ) (numbers : List ℤ) (allowance level node
       ≡ restOf (vectorAt m q clip numbers) allowance (level - 1) node (2 ^ q - tried) keys k
   pub limited : Limited (vectorAt m q clip numbers) (k .taken) limits widest
 
--- The child with symbol s is tried, and r is the verdict on it
+-- A child is tried: `after` are the keys from then on, and r is the verdict on it
 pub record Turn (m q clip : ℕ) (numbers : List ℤ) (allowance level node partial : ℕ) (from : Kept) (limits₀ : List ℕ) (widest₀ tried : ℕ)
-    (keys : List ℕ) (k : Kept) (limits : List ℕ) (widest s child : ℕ) (r : Verdict) : Type 0 where
+    (keys : List ℕ) (k : Kept) (limits : List ℕ) (widest : ℕ) (after : List ℕ) (level′ child d : ℕ) (r : Verdict) : Type 0 where
   pub asked : WalkAsked m q clip numbers level node partial (from .taken) limits₀ widest₀
   pub inner : level ≡ 0 → ⊥
   pub searching : Searching m q clip numbers allowance level node partial from tried keys k limits widest
   pub more : tried < 2 ^ q
-  pub least : s ≡ leastFirst keys (2 ^ q)
-  pub number : child ≡ s * 2 ^ ((m - level) * q) + node
+  pub next : NextChild m q level node keys after level′ child d
   pub verdict : r
-      ≡ verdictBy (m * q) (k .count) (k .taken .label) (k .taken .best) widest limits allowance (getD keys s 0) ((level - 1) * q) child
+      ≡ verdictBy (m * q) (k .count) (k .taken .label) (k .taken .best) widest limits allowance d (level′ * q) child
+
+-- The keys stay as many
+pub next-length : {m q level node : ℕ} {keys after : List ℕ} {level′ child d : ℕ} → NextChild m q level node keys after level′ child d
+    → length after ≡ length keys
+next-length {keys = keys} n = ap length (n .tried) ∙ length-set keys _ above
 
 three-few : (m q level : ℕ) → m ≤ 4 → (level ≡ 0 → ⊥) → q ≤ 6 → (m - level) * q ≤ 18
 three-few m q level h k l = let f : m - level ≤ 3 = omega arith in omega (arith, mul-le-mul f l)
@@ -75,9 +82,6 @@ module _ {m q clip : ℕ} {numbers : List ℤ} {level node partial : ℕ} {t : T
   pub bits-few : (k : ℕ) → k ≤ m → k * q ≤ 24
   bits-few k h = part-few v in-range k (omega (arith, streams))
 
-  pub bits-room : m * q ≤ length limits₀
-  bits-room = rw label-bits (w .limited .room)
-
   pub partial-few : partial ≤ above
   partial-few = le-of-lt (lt-of-le-of-lt (w .bounded) (partial-low v in-range level))
 
@@ -98,13 +102,31 @@ module _ {m q clip : ℕ} {numbers : List ℤ} {level node partial : ℕ} {t : T
     pub node-placed : node < 2 ^ ((m - level) * q)
     node-placed = subst (λ (x : ℕ). node < 2 ^ x) (chosen-by v m level (sym streams)) (w .placed)
 
+    -- The keys of a node's children have room
+    pub keys-room : (keys : List ℕ) → level * 2 ^ q ≤ length keys → 2 ^ q ≤ length keys
+    keys-room keys h =
+        let some : 1 ≤ level = omega arith in
+        omega (arith, mul-le-mul some (le-refl (2 ^ q)))
+
+    -- and those behind them are enough for the level below
+    pub keys-left : {level′ : ℕ} → level′ ≡ level - 1 → (keys : List ℕ) → level * 2 ^ q ≤ length keys → level′ * 2 ^ q ≤ length keys - 2 ^ q
+    keys-left e keys h =
+        let up : suc (level - 1) ≡ level = omega arith in
+        omega (arith, ap (λ (l : ℕ). l * 2 ^ q) e, ap (λ (l : ℕ). l * 2 ^ q) up, suc-mul (level - 1) (2 ^ q))
+
+    -- The bits that the child's label leaves free
+    pub free-few : {level′ : ℕ} → level′ ≡ level - 1 → level′ * q ≤ 24
+    free-few e = omega (arith, ap (λ (l : ℕ). l * q) e, bits-few (level - 1) (omega (arith, w .inside)))
+
     -- Before the first child, with the keys of all
-    pub start : (allowance : ℕ) (old keys : List ℕ) → 2 ^ q ≤ length old
+    pub start : (allowance : ℕ) (old keys : List ℕ) → level * 2 ^ q ≤ length old
         → keys ≡ filled (rowKey m q numbers (level - 1) node partial) (2 ^ q) old → (count : ℕ) (stopped : Bool) → stopped ≡ false
         → Searching m q clip numbers allowance level node partial (keptOf count false t) 0 keys (keptOf count stopped t) limits₀ widest₀
-    start allowance old keys room e count stopped f =
+    start allowance old keys wide e count stopped f =
+        let room = keys-room old wide in
         let g = e ∙ keys-by m q numbers (w .asked .vector) clip (level - 1) node partial row-inside old in
         record {
+          room = omega (arith, ap length e, filled-length (rowKey m q numbers (level - 1) node partial) (2 ^ q) old);
           lowest = w .lowest;
           running = f;
           held = keys-held v level inner inside in-range partial (w .bounded) node (2 ^ q) refl old keys room g;
@@ -119,37 +141,28 @@ module _ {m q clip : ℕ} {numbers : List ℤ} {level node partial : ℕ} {t : T
       pub done : n ≤ tried → k ≡ below v allowance level node partial (keptOf count₀ false t)
       done e = sym (h .left ∙ rest-done v (2 ^ q) refl allowance node (level - 1) tried keys k (omega arith))
 
-      -- The child with symbol s is tried
-      module _ (more : tried < n) (s : ℕ) (es : s ≡ leastFirst keys n) where
-        turns : tried < 2 ^ q
-        turns = omega arith
-
-        least : s ≡ leastFirst keys (2 ^ q)
-        least = es ∙ ap (leastFirst keys) en
-
-        pub symbol-few : s < 64
-        symbol-few = omega (arith, symbol-inside keys q (2 ^ q) s refl least, kids-few)
-
-        -- The verdict on its child
-        pub turn-of : (child : ℕ) → child ≡ s * 2 ^ ((m - level) * q) + node → (r : Verdict)
-            → r ≡ verdictBy (m * q) (k .count) (k .taken .label) (k .taken .best) widest limits allowance (getD keys s 0)
-            ((level - 1) * q) child
-            → Turn m q clip numbers allowance level node partial (keptOf count₀ false t) limits₀ widest₀ tried keys k limits widest s
-            child r
-        turn-of child ec r er = record {
-          asked = w;
-          inner = inner;
-          searching = h;
-          more = turns;
-          least = least;
-          number = ec;
-          verdict = er;
-        }
+      -- A child is tried
+      pub turn-of : tried < n → {after : List ℕ} {level′ child d : ℕ} → NextChild m q level node keys after level′ child d → (r : Verdict)
+          → r ≡ verdictBy (m * q) (k .count) (k .taken .label) (k .taken .best) widest limits allowance d (level′ * q) child
+          → Turn m q clip numbers allowance level node partial (keptOf count₀ false t) limits₀ widest₀ tried keys k limits widest after level′
+          child d r
+      turn-of more next r er = record {
+        asked = w;
+        inner = inner;
+        searching = h;
+        more = omega arith;
+        next = next;
+        verdict = er;
+      }
 
 -- What each verdict makes of it
 module _ {m q clip : ℕ} {numbers : List ℤ} {allowance level node partial : ℕ} {from : Kept} {limits₀ : List ℕ} {widest₀ tried : ℕ}
-    {keys : List ℕ} {k : Kept} {limits : List ℕ} {widest s child : ℕ} {r : Verdict}
-    (f : Turn m q clip numbers allowance level node partial from limits₀ widest₀ tried keys k limits widest s child r) where
+    {keys : List ℕ} {k : Kept} {limits : List ℕ} {widest : ℕ} {after : List ℕ} {level′ child d : ℕ} {r : Verdict}
+    (f : Turn m q clip numbers allowance level node partial from limits₀ widest₀ tried keys k limits widest after level′ child d r) where
+  -- Its symbol
+  abbrev s : ℕ
+  s = leastFirst keys (2 ^ q)
+
   abbrev at : Vector
   at = vectorAt m q clip numbers
 
@@ -160,22 +173,28 @@ module _ {m q clip : ℕ} {numbers : List ℤ} {allowance level node partial : �
   h = f .searching
 
   low : getD keys s 0 ≤ largestPartial at (level - 1)
-  low = held-least (h .held) (f .more) s (f .least)
+  low = held-least (h .held) (f .more) s refl
 
   child-is : child ≡ childOf at (level - 1) node s
-  child-is = child-by at level (f .inner) (inside w) m node s child (sym (streams w)) (f .number)
+  child-is = child-by at level (f .inner) (inside w) m node s child (sym (streams w)) (f .next .number)
 
   -- What the search below the child is asked
-  pub child-asked : WalkAsked m q clip numbers (level - 1) child (getD keys s 0) (k .taken) limits widest
-  child-asked = record {
+  pub child-asked : WalkAsked m q clip numbers level′ child d (k .taken) limits widest
+  child-asked = rw (f .next .inside, f .next .least) (record {
     asked = w .asked;
     inside = omega (arith, w .inside);
-    placed = child-placed at level (f .inner) (inside w) node s child (symbol-inside keys q (2 ^ q) s refl (f .least)) (w .placed)
+    placed = child-placed at level (f .inner) (inside w) node s child (symbol-inside keys q (2 ^ q) s refl refl) (w .placed)
         child-is;
     bounded = low;
     lowest = h .lowest;
     limited = h .limited;
-  }
+  })
+
+  verdict-is : r ≡ verdictBy (m * q) (k .count) (k .taken .label) (k .taken .best) widest limits allowance (getD keys s 0) ((level - 1) * q) child
+  verdict-is =
+      f .verdict
+      ∙ ap₂ (λ (x y : ℕ). verdictBy (m * q) (k .count) (k .taken .label) (k .taken .best) widest limits allowance x (y * q) child)
+      (f .next .least) (f .next .inside)
 
   abbrev Tests : Verdict → Type 0
   Tests x =
@@ -187,7 +206,7 @@ module _ {m q clip : ℕ} {numbers : List ℤ} {allowance level node partial : �
   tests x e =
       subst Tests
       (sym (verdict-by at (k .taken) limits widest (h .limited) (m * q) (label-bits w) (k .count) allowance (getD keys s 0)
-      ((level - 1) * q) child) ∙ sym (f .verdict) ∙ e)
+      ((level - 1) * q) child) ∙ sym verdict-is ∙ e)
       (says (beyond at (k .taken) (getD keys s 0)) (passing at (k .taken) (getD keys s 0) ((level - 1) * q) child)
       (ltb (k .count) allowance))
 
@@ -195,7 +214,7 @@ module _ {m q clip : ℕ} {numbers : List ℤ} {allowance level node partial : �
   pub ended : r ≡ Ended → (k ≡ below at allowance level node partial from) × Limited at (k .taken) limits widest
   ended e =
       let top = le-of-lt (lt-of-le-of-lt low (partial-low at (in-range w) (level - 1))) in (
-        sym (h .left ∙ rest-beyond at (2 ^ q) refl allowance node (level - 1) (2 ^ q - tried) keys k s (f .least) top (tests Ended e)),
+        sym (h .left ∙ rest-beyond at (2 ^ q) refl allowance node (level - 1) (2 ^ q - tried) keys k s refl top (tests Ended e)),
         h .limited,
       )
 
@@ -204,18 +223,28 @@ module _ {m q clip : ℕ} {numbers : List ℤ} {allowance level node partial : �
       → (keptOf (k .count) true (k .taken) ≡ below at allowance level node partial from) × Limited at (k .taken) limits widest
   halts e =
       let x = tests Stop e in (
-        rest-halted at (2 ^ q) refl allowance node (level - 1) tried keys k (f .more) s (f .least) child child-is (x .0)
+        rest-halted at (2 ^ q) refl allowance node (level - 1) tried keys k (f .more) s refl child child-is (x .0)
             (ltb-false _ _ (x .1)) ∙ sym (h .left),
         h .limited,
       )
 
+  -- One child more is tried, and its key is overwritten
+  next-held : Held above (2 ^ q) (largestPartial at (level - 1)) (tried + 1) after
+  next-held = rw (f .next .tried) (held-set (h .held) s)
+
+  next-room : level * 2 ^ q ≤ length after
+  next-room = omega (arith, h .room, next-length (f .next))
+
   -- The child is cut
-  pub cut : r ≡ Cut → Searching m q clip numbers allowance level node partial from (tried + 1) (set keys s above) k limits widest
+  pub cut : r ≡ Cut → Searching m q clip numbers allowance level node partial from (tried + 1) after k limits widest
   cut e = record {
+    room = next-room;
     lowest = h .lowest;
     running = h .running;
-    held = held-set (h .held) s;
-    left = h .left ∙ rest-cut at (2 ^ q) refl allowance node (level - 1) tried keys k (f .more) s (f .least) child child-is (tests Cut e);
+    held = next-held;
+    left = h .left
+        ∙ rest-cut at (2 ^ q) refl allowance node (level - 1) tried keys k (f .more) s refl child child-is (tests Cut e)
+        ∙ ap (λ (l : List ℕ). restOf at allowance (level - 1) node (2 ^ q - (tried + 1)) l k) (sym (f .next .tried));
     limited = h .limited;
   }
 
@@ -224,22 +253,33 @@ module _ {m q clip : ℕ} {numbers : List ℤ} {allowance level node partial : �
     pub counts : k .count < allowance
     counts = ltb-true _ _ (tests Enter e .1)
 
-    module _ (u : Kept) (is : u ≡ below at allowance (level - 1) child (getD keys s 0) (keptOf (k .count + 1) false (k .taken))) where
+    module _ (u : Kept) (is : u ≡ below at allowance level′ child d (keptOf (k .count + 1) false (k .taken))) where
+      found : u ≡ below at allowance (level - 1) child (getD keys s 0) (keptOf (k .count + 1) false (k .taken))
+      found =
+          is ∙ ap₂ (λ (x y : ℕ). below at allowance x child y (keptOf (k .count + 1) false (k .taken))) (f .next .inside) (f .next .least)
+
       -- to the end of the allowance
       pub stops : u .stopped ≡ true → u ≡ below at allowance level node partial from
       stops x =
-          rest-stopped at (2 ^ q) refl allowance node (level - 1) tried keys k (f .more) s (f .least) child child-is (tests Enter e .0)
-          (h .running) counts u is x ∙ sym (h .left)
+          rest-stopped at (2 ^ q) refl allowance node (level - 1) tried keys k (f .more) s refl child child-is (tests Enter e .0)
+          (h .running) counts u found x ∙ sym (h .left)
 
-      -- or its subtree is finished
+      -- or its subtree is finished, and the keys behind the children's are others
       pub onward : u .stopped ≡ false → {limits : List ℕ} {widest : ℕ} → Limited at (u .taken) limits widest
-          → Searching m q clip numbers allowance level node partial from (tried + 1) (set keys s above) u limits widest
-      onward x l = record {
-        lowest = le-trans (kept-falls at allowance (level - 1) child (getD keys s 0) _ u is .best) (h .lowest);
-        running = x;
-        held = held-set (h .held) s;
-        left = h .left
-            ∙ rest-onward at (2 ^ q) refl allowance node (level - 1) tried keys k (f .more) s (f .least) child child-is
-            (tests Enter e .0) (h .running) counts u is x;
-        limited = l;
-      }
+          → (tail : List ℕ) → length (take (2 ^ q) after ++ tail) ≡ length after
+          → Searching m q clip numbers allowance level node partial from (tried + 1) (take (2 ^ q) after ++ tail) u limits widest
+      onward x l tail lt =
+          let wide : 2 ^ q ≤ length after = keys-room w (f .inner) after next-room in
+          let same = same-front (2 ^ q) after tail wide in
+          record {
+            room = omega (arith, next-room);
+            lowest = le-trans (kept-falls at allowance (level - 1) child (getD keys s 0) _ u found .best) (h .lowest);
+            running = x;
+            held = held-same same next-held;
+            left = h .left
+                ∙ rest-onward at (2 ^ q) refl allowance node (level - 1) tried keys k (f .more) s refl child child-is
+                (tests Enter e .0) (h .running) counts u found x
+                ∙ ap (λ (l : List ℕ). restOf at allowance (level - 1) node (2 ^ q - (tried + 1)) l u) (sym (f .next .tried))
+                ∙ rest-same at (2 ^ q) refl allowance node (level - 1) same (2 ^ q - (tried + 1)) u;
+            limited = l;
+          }

@@ -1,7 +1,7 @@
 -- The loops over a label's bits, by their turns. A test of all bits is, after the first i, a test of those from i on; the minima are,
 -- after the first i bits, lowered at these.
 use Prim.Native.Nat.{ℕ, suc, _+_, _-_, _≤_, _<_, min}
-use mathlib.Core.Path.{_≡_, refl, sym, _∙_, ap, ap₂}
+use mathlib.Core.Path.{_≡_, sym, _∙_, ap, ap₂}
 use mathlib.Core.Bool.{Bool, true, false, _||_, Bool·beq}
 use mathlib.Core.List.{List}
 use native.Mathlib.Nat.{le-refl}
@@ -13,7 +13,7 @@ use Rattle.model.specs.Soft.{upFrom}
 use Rattle.model.specs.Walk.{anyOf}
 use Rattle.metric.specs.Parts.{filled}
 use Rattle.metric.specs.Parts.{bitOf}
-use Rattle.search.specs.Program.{loweredAt, lowered}
+use Rattle.search.specs.Program.{loweredAt}
 use Rattle.metric.proofs.Filled.{filled-more, filled-rest}
 
 -- The test of the bits from i on, of n bits
@@ -21,9 +21,6 @@ abbrev pub anyFrom : (ℕ → Bool) → ℕ → ℕ → Bool
 anyFrom f n i = anyOf f (upFrom i (n - i))
 
 module _ (f : ℕ → Bool) (n : ℕ) where
-  any-all : anyOf f (upFrom 0 n) ≡ anyFrom f n 0
-  any-all = let e : n - 0 ≡ n = omega arith in rw e
-
   any-more : (i : ℕ) → i < n → anyFrom f n i ≡ (f i || anyFrom f n (i + 1))
   unfolding upFrom
   any-more i h = let e : n - i ≡ suc (n - (i + 1)) = omega arith in rw (e, add-one)
@@ -41,12 +38,7 @@ module _ (f : ℕ → Bool) (n : ℕ) where
   unfolding upFrom
   any-done i h = let e : n - i ≡ 0 = omega arith in rw e
 
--- The minima after the first i bits of a label of metric d, from those before it
-pub record Lowered (n label d : ℕ) (zeros ones : List ℕ) (i : ℕ) (zeros′ ones′ : List ℕ) : Type 0 where
-  pub at-zeros : zeros′ ≡ filled (loweredAt n false label d zeros) i zeros
-  pub at-ones : ones′ ≡ filled (loweredAt n true label d ones) i ones
-
--- One side of them, us at first and vs after i bits
+-- One side's minima, us at first and vs after the first i bits of a label of metric d
 module _ (n : ℕ) (x : Bool) (label d : ℕ) (us vs : List ℕ) (i : ℕ) (e : vs ≡ filled (loweredAt n x label d us) i us) where
   old : getD vs i 0 ≡ getD us i 0
   old = ap (λ (l : List ℕ). getD l i 0) e ∙ filled-rest (loweredAt n x label d us) i us i 0 (le-refl i)
@@ -54,35 +46,12 @@ module _ (n : ℕ) (x : Bool) (label d : ℕ) (us vs : List ℕ) (i : ℕ) (e : 
   one-more : (u : ℕ) → u ≡ loweredAt n x label d us i → set vs i u ≡ filled (loweredAt n x label d us) (i + 1) us
   one-more u f = ap₂ (λ (l : List ℕ) (y : ℕ). set l i y) e f ∙ filled-more (loweredAt n x label d us) i us
 
-  lowered-hit : Bool·beq (bitOf n label i) x ≡ true → set vs i (min d (getD vs i 0)) ≡ filled (loweredAt n x label d us) (i + 1) us
+  -- A bit of this side lowers its minimum
+  pub lowered-hit : Bool·beq (bitOf n label i) x ≡ true → set vs i (min d (getD vs i 0)) ≡ filled (loweredAt n x label d us) (i + 1) us
   unfolding loweredAt
   lowered-hit h = one-more (min d (getD vs i 0)) (rw (h, old))
 
-  lowered-miss : Bool·beq (bitOf n label i) x ≡ false → vs ≡ filled (loweredAt n x label d us) (i + 1) us
+  -- Another leaves it
+  pub lowered-miss : Bool·beq (bitOf n label i) x ≡ false → vs ≡ filled (loweredAt n x label d us) (i + 1) us
   unfolding loweredAt
   lowered-miss h = sym (set-getD vs i 0) ∙ one-more (getD vs i 0) (rw (h, old))
-
-module _ (n label d : ℕ) (zeros ones : List ℕ) where
-  -- At first nothing is lowered
-  pub lowered-start : Lowered n label d zeros ones 0 zeros ones
-  unfolding filled
-  lowered-start = record { at-zeros = refl; at-ones = refl }
-
-  module _ {i : ℕ} {zeros′ ones′ : List ℕ} (l : Lowered n label d zeros ones i zeros′ ones′) where
-    -- A bit 1 lowers its minimum with 1
-    pub lowered-one : true ≡ bitOf n label i → Lowered n label d zeros ones (i + 1) zeros′ (set ones′ i (min d (getD ones′ i 0)))
-    lowered-one e = record {
-      at-zeros = lowered-miss n false label d zeros zeros′ i (l .at-zeros) (rw (← e));
-      at-ones = lowered-hit n true label d ones ones′ i (l .at-ones) (rw (← e));
-    }
-
-    -- A bit 0 lowers that with 0
-    pub lowered-zero : false ≡ bitOf n label i → Lowered n label d zeros ones (i + 1) (set zeros′ i (min d (getD zeros′ i 0))) ones′
-    lowered-zero e = record {
-      at-zeros = lowered-hit n false label d zeros zeros′ i (l .at-zeros) (rw (← e));
-      at-ones = lowered-miss n true label d ones ones′ i (l .at-ones) (rw (← e));
-    }
-
-    -- After all bits
-    pub lowered-done : i ≡ n → (zeros′ ≡ lowered n false label d zeros) × (ones′ ≡ lowered n true label d ones)
-    lowered-done e = (l .at-zeros ∙ rw e, l .at-ones ∙ rw e)

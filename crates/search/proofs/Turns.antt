@@ -67,6 +67,12 @@ module _ (v : Vector) (n : ℕ) (en : n ≡ 2 ^ v .width) (allowance node level 
             ∙ sym (ap (λ (x : List ℕ). getD x i 0) e ∙ filled-at key (2 ^ v .width) old i 0 l w);
       }
 
+  -- Only the children's keys matter
+  pub rest-same : {a b : List ℕ} → Same (2 ^ v .width) a b → (fuel : ℕ) (k : Kept)
+      → restOf v allowance level node fuel a k ≡ restOf v allowance level node fuel b k
+  unfolding restOf
+  rest-same h fuel k = siblings-same _ _ (2 ^ v .width) allowance (pow-pos (v .width)) fuel h k
+
   module _ (turns : ℕ) (keys : List ℕ) (k : Kept) where
     -- No child is left
     pub rest-done : n ≤ turns → restOf v allowance level node (n - turns) keys k ≡ k

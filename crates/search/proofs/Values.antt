@@ -6,20 +6,21 @@ use mathlib.Core.List.{List, map, _++_}
 use native.Mathlib.Nat.{le-refl, mul-le-mul}
 use native.Mathlib.Omega.{arith}
 use lib.IntN.{ℤ, natAbs}
-use lib.ListN.{length, getD, set, drop}
-use lib.Pow.{pow-pos}
+use lib.ListN.{length, getD, set, take, drop, replicate, length-replicate}
+use lib.Pow.{pow-pos, pow-mono}
 use Rattle.model.specs.Metric.{Vector, labelBits, priorAt}
 use Rattle.model.specs.Soft.{softValue, places}
 use Rattle.model.specs.Block.{Answer, answer}
 use Rattle.block.proofs.Places.{rows-count, all-priors-at}
 use Rattle.metric.specs.Rows.{VectorAsked}
 use Rattle.metric.specs.Parts.{filled}
-use Rattle.metric.proofs.Filled.{filled-more, filled-same}
-use Rattle.search.specs.Program.{above, sideOf, Taken, takenOf, keptOf, fresh, chosen, below, valueOf, answerOf}
+use Rattle.metric.proofs.Filled.{filled-length, filled-more, filled-same}
+use Rattle.search.specs.Program.{above, sideOf, Taken, takenOf, takenIn, limitsOf, keptOf, fresh, chosen, below, valueOf, answerOf}
 use Rattle.search.specs.Limits.{vectorAt, SearchAsked, limitAt, widestFrom, WalkAsked}
 use Rattle.search.specs.Values.{MinimaLow, Answered}
 use Rattle.search.proofs.Answer.{answered, soft-is}
 use Rattle.search.proofs.Bounds.{minima-low}
+use Rattle.search.proofs.Minima.{taken-kept, limits-are, limits-whole}
 use Rattle.search.proofs.Limits.{limited}
 use Rattle.search.proofs.Rows.{ranged}
 
@@ -57,19 +58,41 @@ write-more v zeros ones i before now r e f =
     ap₂ (λ (l : List ℤ) (z : ℤ). set l i z) e f ∙ filled-more (valueOf v (takenOf 0 0 zeros ones)) i before
 
 module _ {m q clip : ℕ} {numbers : List ℤ} (h : SearchAsked m q clip numbers) where
-  -- What the walk from the root asks
-  pub root-asked : (old limits : List ℕ) (widest : ℕ) → length old ≡ 24
-      → limits ≡ filled (limitAt (vectorAt m q clip numbers) (fresh 24 .taken)) (m * q) old → widest ≡ widestFrom limits 0 (m * q)
-      → WalkAsked m q clip numbers m 0 0 (fresh 24 .taken) limits widest
-  root-asked old limits widest room e f = record {
-    asked = h;
-    inside = le-refl m;
-    placed = pow-pos (chosen (vectorAt m q clip numbers) m);
-    bounded = omega arith;
-    lowest = le-refl above;
-    limited = limited (vectorAt m q clip numbers) (fresh 24 .taken) (m * q) (bits-are m q clip numbers) old limits
-        (omega (arith, few (h .vector))) e widest f;
-  }
+  -- The keys of all levels have room
+  pub keys-many : m * 2 ^ q ≤ 256
+  keys-many = omega (arith, mul-le-mul (h .vector .streams) (pow-mono (h .vector .bits)))
+
+  -- The limits before the first leaf
+  abbrev first : List ℕ
+  first = filled (limitAt (vectorAt m q clip numbers) (fresh 24 .taken)) (m * q) (limitsOf (replicate 72 above))
+
+  module _ {minima : List ℕ} (e : minima ≡ take 48 (replicate 72 above) ++ first) where
+    abbrev v : Vector
+    v = vectorAt m q clip numbers
+
+    pub root-fresh : takenIn 0 above minima ≡ fresh 24 .taken
+    root-fresh = ap (takenIn 0 above) e ∙ taken-kept (replicate 72 above) (length-replicate 72 above) first 0 above
+
+    pub root-whole : length minima ≡ 72
+    root-whole =
+        ap length e
+        ∙ limits-whole (replicate 72 above) (length-replicate 72 above) first
+        (filled-length (limitAt v (fresh 24 .taken)) (m * q) (limitsOf (replicate 72 above)) ∙ length-replicate 24 above)
+
+    -- What the walk from the root asks
+    pub root-asked : (widest : ℕ) → widest ≡ widestFrom (limitsOf minima) 0 (m * q)
+        → WalkAsked m q clip numbers m 0 0 (takenIn 0 above minima) (limitsOf minima) widest
+    root-asked widest f = record {
+      asked = h;
+      inside = le-refl m;
+      placed = pow-pos (chosen v m);
+      bounded = omega arith;
+      lowest = le-refl above;
+      limited = rw root-fresh
+          (limited v (fresh 24 .taken) (m * q) (bits-are m q clip numbers) (limitsOf (replicate 72 above)) (limitsOf minima)
+          (omega (arith, few (h .vector), length-replicate 24 above))
+          (ap limitsOf e ∙ limits-are (replicate 72 above) (length-replicate 72 above) first) widest f);
+    }
 
   -- What the walk from the root has kept at the end
   module _ (allowance : ℕ) {count : ℕ} {stopped : Bool} {t : Taken}

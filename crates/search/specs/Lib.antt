@@ -3,3 +3,4 @@ pub mod Arrays
 pub mod Program
 pub mod Limits
 pub mod Values
+pub mod Holds

@@ -1,10 +1,10 @@
 -- A bit's limit as one number, what a search asks of its vector, and what is done with a child.
-use Prim.Native.Nat.{ℕ, zero, suc, _+_, _*_, _≤_, _<_, _^_, min, max}
+use Prim.Native.Nat.{ℕ, zero, suc, _+_, _-_, _*_, _≤_, _<_, _^_, min, max}
 use mathlib.Core.Path.{_≡_}
 use mathlib.Core.Bool.{Bool, cond, _&&_, _||_}
 use mathlib.Core.List.{List}
 use lib.Dec.{leb, ltb}
-use lib.ListN.{length, getD}
+use lib.ListN.{length, getD, set}
 use lib.IntN.{ℤ, pos, negsuc}
 use Rattle.model.specs.Metric.{Vector, labelBits, priorAt}
 use Rattle.model.specs.Soft.{upFrom}
@@ -13,6 +13,8 @@ use Rattle.model.specs.Block.{mostClip}
 use Rattle.block.specs.Contents.{rowsOf}
 use Rattle.metric.specs.Rows.{VectorAsked}
 use Rattle.metric.specs.Parts.{bitOf}
+use Rattle.search.specs.Arrays.{leastFirst}
+use Rattle.search.specs.declared.Task.{Task}
 use Rattle.search.specs.Program.{above, largestPartial, Taken, opens, reachOf, passing, beyond, chosen}
 use Rattle.search.specs.declared.Verdict.{Verdict}
 use Rattle.search.specs.declared.Verdict.the-variants.{Ended, Cut, Enter, Stop}
@@ -26,6 +28,13 @@ pub record SearchAsked (m q clip : ℕ) (numbers : List ℤ) : Type 0 where
   pub stream : 0 < m
   pub vector : VectorAsked m q numbers
   pub clips : clip ≤ mostClip
+
+-- The vector of a task, and what its search asks
+abbrev pub vectorFor : Task → List ℤ → Vector
+vectorFor t numbers = vectorAt (t .streams) (t .width) (t .clip) numbers
+
+abbrev pub Asked : Task → List ℤ → Type 0
+Asked t numbers = SearchAsked (t .streams) (t .width) (t .clip) numbers
 
 -- A whole number, 0 in place of a negative one
 unfoldable pub upOf : ℤ → ℕ
@@ -67,6 +76,13 @@ verdictOf v t count allowance d free child =
 unfoldable pub verdictBy : ℕ → ℕ → ℕ → ℕ → ℕ → List ℕ → ℕ → ℕ → ℕ → ℕ → Verdict
 verdictBy n count label best widest limits allowance d free child =
     cond (leb d best || ltb d widest) (cond (passingBy n label best limits d free child) (cond (ltb count allowance) Enter Stop) Cut) Ended
+
+-- The next child of a node with `level` streams to choose, by the first of its smallest keys, which is then the sentinel
+pub record NextChild (m q level node : ℕ) (keys after : List ℕ) (level′ bits partial : ℕ) : Type 0 where
+  pub inside : level′ ≡ level - 1
+  pub number : bits ≡ leastFirst keys (2 ^ q) * 2 ^ ((m - level) * q) + node
+  pub least : partial ≡ getD keys (leastFirst keys (2 ^ q)) 0
+  pub tried : after ≡ set keys (leastFirst keys (2 ^ q)) above
 
 -- What the search below a node asks, with `level` streams to choose
 pub record WalkAsked (m q clip : ℕ) (numbers : List ℤ) (level node partial : ℕ) (t : Taken) (limits : List ℕ) (widest : ℕ) : Type 0 where

@@ -1,25 +1,22 @@
 -- The search of one vector over numbers, as code makes it: a node is the number of its bits, an infinite least metric is a sentinel,
 -- and the next child is the first smallest key that is not taken. That it gives document 01's answer is `replied-is` (proofs/Answer).
-use Prim.Native.Nat.{ℕ, zero, suc, _+_, _-_, _*_, _/_, _%_, _^_, _≤_, min}
+use Prim.Native.Nat.{ℕ, zero, suc, _+_, _-_, _*_, _^_, _≤_, min}
 use mathlib.Core.Bool.{Bool, true, false, cond, not, _&&_, _||_, Bool·beq}
 use mathlib.Core.List.{List, [], _++_, map}
 use lib.Dec.{leb, ltb, eqb}
-use lib.ListN.{length, getD, set, replicate}
+use lib.ListN.{length, getD, set, replicate, take, drop}
 use lib.IntN.{ℤ, pos, _+ℤ_, _-ℤ_}
 use lib.Signed.{ltZ}
 use Rattle.model.specs.Constellation.{real, bitsOf}
 use Rattle.model.specs.Metric.{Row, Vector, increment, labelBits, priorAt}
 use Rattle.model.specs.Soft.{Least, infinite, finite, upFrom, places, softValue}
 use Rattle.model.specs.Walk.{anyOf}
-use Rattle.model.specs.Block.{Answer, RowsInRange, mostStreams}
+use Rattle.model.specs.Block.{Answer, RowsInRange, mostStreams, mostWidth}
 use Rattle.model.proofs.Bounds.{largestMetric}
 use Rattle.metric.specs.Parts.{bitOf, filled}
 use Rattle.search.specs.Arrays.{leastFirst}
 
--- The most bits that a symbol has, the most that a label has, and the most children of a node: the lengths of arrays
-abbrev pub mostWidth : ℕ
-mostWidth = 6
-
+-- The most bits that a label has, and the most children of a node: the lengths of arrays
 abbrev pub mostBits : ℕ
 mostBits = mostStreams * mostWidth
 
@@ -61,6 +58,19 @@ pub record Kept : Type 0 where
 
 abbrev pub takenOf : ℕ → ℕ → List ℕ → List ℕ → Taken
 takenOf label best zeros ones = record { label = label; best = best; zeros = zeros; ones = ones }
+
+-- One array has each bit's least metric with it 0, that with it 1, and its limit: three runs, each with room for a label's bits
+abbrev pub zerosOf : List ℕ → List ℕ
+zerosOf minima = take mostBits minima
+
+abbrev pub onesOf : List ℕ → List ℕ
+onesOf minima = take mostBits (drop mostBits minima)
+
+abbrev pub limitsOf : List ℕ → List ℕ
+limitsOf minima = drop (2 * mostBits) minima
+
+abbrev pub takenIn : ℕ → ℕ → List ℕ → Taken
+takenIn label best minima = takenOf label best (zerosOf minima) (onesOf minima)
 
 abbrev pub keptOf : ℕ → Bool → Taken → Kept
 keptOf count stopped taken = record { count = count; stopped = stopped; taken = taken }

@@ -1,19 +1,23 @@
 // The search of one vector (document 01, "The walk"): the next child, the pass test, the leaves taken into the minima, the walk under an
 // allowance, and the soft values.
+use metric::Node;
+use metric::Shape;
 ghost use mathlib.Core.Path.{_≡_};
-ghost use mathlib.Core.Bool.{Bool, true, false, cond, _||_};
+ghost use mathlib.Core.Bool.{true, false, cond, _||_};
 ghost use lib.Dec.{leb, ltb};
-ghost use Prim.Native.Nat.{ℕ, _+_, _*_, _-_, _/_, _%_, _<_, _≤_, _^_, min, max};
-ghost use lib.IntN.{ℤ, natAbs, pos};
-ghost use lib.ListN.{length, getD, set};
+ghost use Prim.Native.Nat.{_+_, _*_, _-_, _<_, _≤_, _^_, min};
+ghost use lib.IntN.{natAbs};
+ghost use lib.ListN.{length, getD, set, take};
+ghost use mathlib.Core.List.{_++_};
 ghost use Rattle.model.specs.Metric.{priorAt};
 ghost use Rattle.model.specs.Soft.{softValue};
 ghost use Rattle.model.specs.Block.{mostClip};
 ghost use Rattle.metric.specs.Rows.{VectorAsked};
-ghost use Rattle.metric.specs.Parts.{bitOf, filled};
+ghost use Rattle.metric.specs.Tables.{Tabled};
+ghost use Rattle.metric.specs.Parts.{filled};
 ghost use Rattle.search.specs.Arrays.{leastFirst};
-ghost use Rattle.search.specs.Program.{above, sideOf, valueOf, takenOf, keptOf, opens, reachOf, lowered, sooner, noted, below};
-ghost use Rattle.search.specs.Limits.{vectorAt, SearchAsked, upOf, limitAt, widestFrom, Limited, letsBy, passingBy, verdictBy, WalkAsked};
+ghost use Rattle.search.specs.Program.{above, sideOf, valueOf, takenIn, zerosOf, onesOf, limitsOf, keptOf, opens, reachOf, lowered, sooner, noted, below};
+ghost use Rattle.search.specs.Limits.{vectorFor, Asked, upOf, limitAt, widestFrom, Limited, letsBy, passingBy, verdictBy, WalkAsked, NextChild};
 ghost use Rattle.search.specs.Values.{MinimaLow, Answered};
 
 // What is done with the next child.
@@ -36,16 +40,23 @@ struct Kept {
 // Above every metric: an infinite least metric, and the key of a child that was tried.
 const ABOVE: u64 = 549755813888;
 
-// A vector's M, Q and C.
-pub struct Sizes {
+// What a search is asked: a vector's M, Q and C, and its allowance (document 01's term).
+pub struct Task {
     pub streams: usize,
     pub width: usize,
     pub clip: u32,
+    pub allowance: u32,
+}
+
+// A label and its metric.
+struct Best {
+    label: u32,
+    metric: u64,
 }
 
 // The place of the smallest of the first n keys, the first one of equals: the next child.
-fn least_first(keys: &[u64; 64], n: usize) -> usize
-    requires { ⌜ (1 ≤ n) × (n ≤ 64) ⌝ }
+fn least_first(keys: &[u64], n: usize) -> usize
+    requires { ⌜ (1 ≤ n) × (n ≤ length (now keys)) ⌝ }
     ensures { λ r. ⌜ (r ≡ leastFirst (now (keys .entry)) n) × (r < n) ⌝ }
 {
     let mut least = 0;
@@ -105,12 +116,6 @@ fn comes_sooner(d: u64, node: u32, best: u64, label: u32) -> bool
     d == best && node < label
 }
 
-// A label and its metric.
-struct Best {
-    label: u32,
-    metric: u64,
-}
-
 // The best label after one of metric d.
 fn better(d: u64, node: u32, best: u64, label: u32) -> Best
     ensures { λ r. ⌜ (r .label ≡ cond (sooner d node best label) node label) × (r .metric ≡ min d best) ⌝ }
@@ -128,8 +133,8 @@ fn better(d: u64, node: u32, best: u64, label: u32) -> Best
 }
 
 // The least metric at place i, after one of d.
-fn lower(least: &mut [u64; 24], i: usize, d: u64)
-    requires { ⌜ i < 24 ⌝ }
+fn lower(least: &mut [u64], i: usize, d: u64)
+    requires { ⌜ i < length (now least) ⌝ }
     ensures { λ _. ⌜ now (least .exit) ≡ set (now (least .entry)) i (min d (getD (now (least .entry)) i 0)) ⌝ }
 {
     if d < least[i] {
@@ -137,87 +142,69 @@ fn lower(least: &mut [u64; 24], i: usize, d: u64)
     }
 }
 
-// A leaf's metric is taken into the least ones of its bits.
-fn note(n: usize, label: u32, d: u64, zeros: &mut [u64; 24], ones: &mut [u64; 24])
-    requires { ⌜ n ≤ 24 ⌝ }
-    ensures { λ _. ⌜ (now (zeros .exit) ≡ lowered n false label d (now (zeros .entry))) × (now (ones .exit) ≡ lowered n true label d (now (ones .entry))) ⌝ }
+// A leaf's metric is taken into the least ones of its bits that are `side`.
+fn note(n: usize, label: u32, d: u64, side: bool, least: &mut [u64])
+    requires { ⌜ (n ≤ 24) × (n ≤ length (now least)) ⌝ }
+    ensures { λ _. ⌜ now (least .exit) ≡ lowered n side label d (now (least .entry)) ⌝ }
 {
     let mut i = 0;
     while i < n {
-        if metric::bit_at(n, label, i) {
-            lower(ones, i, d);
-        } else {
-            lower(zeros, i, d);
+        let bit = metric::bit_at(n, label, i);
+        if bit == side {
+            lower(least, i, d);
         }
         i += 1;
     }
 }
 
 // The least metric at place i with the bit opposite to the best label's.
-fn opposite(bit: bool, zeros: &[u64; 24], ones: &[u64; 24], i: usize) -> u64
-    requires { ⌜ i < 24 ⌝ }
-    ensures { λ r. ⌜ r ≡ getD (cond bit (now (zeros .entry)) (now (ones .entry))) i 0 ⌝ }
+fn opposite(bit: bool, minima: &[u64], i: usize) -> u64
+    requires { ⌜ (i < 24) × (length (now minima) ≡ 72) ⌝ }
+    ensures { λ r. ⌜ r ≡ getD (cond bit (zerosOf (now (minima .entry))) (onesOf (now (minima .entry)))) i 0 ⌝ }
 {
-    if bit { zeros[i] } else { ones[i] }
+    if bit { minima[i] } else { minima[24 + i] }
 }
 
 // The prior of bit i.
-fn prior_at(sizes: Sizes, numbers: &[i32], i: usize) -> i64
-    requires { ⌜ VectorAsked (sizes .streams) (sizes .width) (now numbers) × (i < sizes .streams * sizes .width) ⌝ }
-    ensures { λ r. ⌜ r ≡ priorAt (vectorAt (sizes .streams) (sizes .width) (sizes .clip) (now (numbers .entry))) i ⌝ }
+fn prior_at(task: Task, numbers: &[i32], i: usize) -> i64
+    requires { ⌜ VectorAsked (task .streams) (task .width) (now numbers) × (i < task .streams * task .width) ⌝ }
+    ensures { λ r. ⌜ r ≡ priorAt (vectorFor task (now (numbers .entry))) i ⌝ }
 {
-    let m = sizes.streams;
+    let m = task.streams;
     numbers[m * m + 2 * m + i] as i64
 }
 
 // Bit i's limit.
-fn limit_at(
-    sizes: Sizes,
-    numbers: &[i32],
-    label: u32,
-    best: u64,
-    zeros: &[u64; 24],
-    ones: &[u64; 24],
-    i: usize,
-) -> u64
-    requires { ⌜ SearchAsked (sizes .streams) (sizes .width) (sizes .clip) (now numbers)
-        × (i < sizes .streams * sizes .width) × (best ≤ above) ⌝ }
-    ensures { λ r. ⌜ r
-        ≡ limitAt (vectorAt (sizes .streams) (sizes .width) (sizes .clip) (now (numbers .entry)))
-        (takenOf label best (now (zeros .entry)) (now (ones .entry))) i ⌝ }
+fn limit_at(task: Task, numbers: &[i32], best: Best, minima: &[u64], i: usize) -> u64
+    requires { ⌜ Asked task (now numbers) × (i < task .streams * task .width) × (best .metric ≤ above) × (length (now minima) ≡ 72) ⌝ }
+    ensures { λ r. ⌜ r ≡ limitAt (vectorFor task (now (numbers .entry))) (takenIn (best .label) (best .metric) (now (minima .entry))) i ⌝ }
 {
-    let bit = metric::bit_at(sizes.streams * sizes.width, label, i);
-    let prior = prior_at(sizes, numbers, i);
-    let far = reach(best + sizes.clip as u64, prior, bit);
-    limit(opposite(bit, zeros, ones, i), far)
+    let bit = metric::bit_at(task.streams * task.width, best.label, i);
+    let prior = prior_at(task, numbers, i);
+    let far = reach(best.metric + task.clip as u64, prior, bit);
+    limit(opposite(bit, minima, i), far)
 }
 
-// The limits of all bits.
-fn limit_all(
-    sizes: Sizes,
-    numbers: &[i32],
-    label: u32,
-    best: u64,
-    zeros: &[u64; 24],
-    ones: &[u64; 24],
-    limits: &mut [u64; 24],
-)
-    requires { ⌜ SearchAsked (sizes .streams) (sizes .width) (sizes .clip) (now numbers) × (best ≤ above) ⌝ }
-    ensures { λ _. ⌜ now (limits .exit)
-        ≡ filled (limitAt (vectorAt (sizes .streams) (sizes .width) (sizes .clip) (now (numbers .entry)))
-        (takenOf label best (now (zeros .entry)) (now (ones .entry)))) (sizes .streams * sizes .width) (now (limits .entry)) ⌝ }
+// The limits of all bits, behind their minima.
+fn limit_all(task: Task, numbers: &[i32], best: Best, minima: &mut [u64])
+    requires { ⌜ Asked task (now numbers) × (best .metric ≤ above) × (length (now minima) ≡ 72) ⌝ }
+    ensures { λ _. ⌜ now (minima .exit)
+        ≡ take 48 (now (minima .entry))
+        ++ filled (limitAt (vectorFor task (now (numbers .entry))) (takenIn (best .label) (best .metric) (now (minima .entry))))
+        (task .streams * task .width) (limitsOf (now (minima .entry))) ⌝ }
 {
-    let n = sizes.streams * sizes.width;
+    let n = task.streams * task.width;
     let mut i = 0;
     while i < n {
-        limits[i] = limit_at(sizes, numbers, label, best, zeros, ones, i);
+        let limit = limit_at(task, numbers, best, minima, i);
+        minima[48 + i] = limit;
         i += 1;
     }
 }
 
 // The widest of the first n limits.
-fn widest_of(limits: &[u64; 24], n: usize) -> u64
-    requires { ⌜ n ≤ 24 ⌝ }
+fn widest_of(limits: &[u64], n: usize) -> u64
+    requires { ⌜ n ≤ length (now limits) ⌝ }
     ensures { λ r. ⌜ r ≡ widestFrom (now (limits .entry)) 0 n ⌝ }
 {
     let mut widest: u64 = 0;
@@ -236,13 +223,13 @@ fn widest_of(limits: &[u64; 24], n: usize) -> u64
 fn lets_pass(
     n: usize,
     label: u32,
-    limits: &[u64; 24],
+    limits: &[u64],
     d: u64,
     free: usize,
     child: u32,
     i: usize,
 ) -> bool
-    requires { ⌜ (i < n) × (n ≤ 24) ⌝ }
+    requires { ⌜ (i < n) × (n ≤ 24) × (n ≤ length (now limits)) ⌝ }
     ensures { λ r. ⌜ r ≡ letsBy n label (now (limits .entry)) d free child i ⌝ }
 {
     if limits[i] <= d {
@@ -252,16 +239,8 @@ fn lets_pass(
 }
 
 // May a child of partial metric d be walked?
-fn passes(
-    n: usize,
-    label: u32,
-    best: u64,
-    limits: &[u64; 24],
-    d: u64,
-    free: usize,
-    child: u32,
-) -> bool
-    requires { ⌜ n ≤ 24 ⌝ }
+fn passes(n: usize, label: u32, best: u64, limits: &[u64], d: u64, free: usize, child: u32) -> bool
+    requires { ⌜ (n ≤ 24) × (n ≤ length (now limits)) ⌝ }
     ensures { λ r. ⌜ r ≡ passingBy n label best (now (limits .entry)) d free child ⌝ }
 {
     if d <= best {
@@ -287,57 +266,52 @@ fn is_within(d: u64, least: u64, widest: u64) -> bool
     d < widest
 }
 
-// What is done with the next child, of partial metric d.
-fn judge(
-    n: usize,
-    kept: Kept,
-    limits: &[u64; 24],
-    allowance: u32,
-    d: u64,
-    free: usize,
-    child: u32,
-) -> Verdict
-    requires { ⌜ n ≤ 24 ⌝ }
+// What is done with the next child.
+fn judge(task: Task, kept: Kept, limits: &[u64], child: Node) -> Verdict
+    requires { ⌜ (task .streams * task .width ≤ 24) × (task .streams * task .width ≤ length (now limits))
+        × (child .level * task .width ≤ 24) ⌝ }
     ensures { λ r. ⌜ r
-        ≡ verdictBy n (kept .count) (kept .label) (kept .best) (kept .widest) (now (limits .entry)) allowance d free child ⌝ }
+        ≡ verdictBy (task .streams * task .width) (kept .count) (kept .label) (kept .best) (kept .widest) (now (limits .entry))
+        (task .allowance) (child .partial) (child .level * task .width) (child .bits) ⌝ }
 {
-    if !is_within(d, kept.best, kept.widest) {
+    if !is_within(child.partial, kept.best, kept.widest) {
         return Verdict::Ended;
     }
-    if !passes(n, kept.label, kept.best, limits, d, free, child) {
+    let n = task.streams * task.width;
+    let free = child.level * task.width;
+    if !passes(
+        n,
+        kept.label,
+        kept.best,
+        limits,
+        child.partial,
+        free,
+        child.bits,
+    ) {
         return Verdict::Cut;
     }
-    if kept.count < allowance {
+    if kept.count < task.allowance {
         return Verdict::Enter;
     }
     Verdict::Stop
 }
 
 // A leaf is taken into the best label, the minima and the limits.
-fn take_leaf(
-    sizes: Sizes,
-    numbers: &[i32],
-    node: u32,
-    partial: u64,
-    kept: Kept,
-    zeros: &mut [u64; 24],
-    ones: &mut [u64; 24],
-    limits: &mut [u64; 24],
-) -> Kept
-    requires { ⌜ SearchAsked (sizes .streams) (sizes .width) (sizes .clip) (now numbers)
-        × (partial ≤ above) × (kept .best ≤ above) × (sizes .streams * sizes .width ≤ length (now limits)) ⌝ }
-    ensures { λ r. ⌜ (keptOf (r .count) (r .stopped) (takenOf (r .label) (r .best) (now (zeros .exit)) (now (ones .exit)))
+fn take_leaf(task: Task, leaf: Node, kept: Kept, numbers: &[i32], minima: &mut [u64]) -> Kept
+    requires { ⌜ Asked task (now numbers) × (leaf .partial ≤ above) × (kept .best ≤ above) × (length (now minima) ≡ 72) ⌝ }
+    ensures { λ r. ⌜ (keptOf (r .count) (r .stopped) (takenIn (r .label) (r .best) (now (minima .exit)))
         ≡ keptOf (kept .count) (kept .stopped)
-        (noted (vectorAt (sizes .streams) (sizes .width) (sizes .clip) (now (numbers .entry))) node partial
-        (takenOf (kept .label) (kept .best) (now (zeros .entry)) (now (ones .entry)))))
-        × Limited (vectorAt (sizes .streams) (sizes .width) (sizes .clip) (now (numbers .entry)))
-        (takenOf (r .label) (r .best) (now (zeros .exit)) (now (ones .exit))) (now (limits .exit)) (r .widest) ⌝ }
+        (noted (vectorFor task (now (numbers .entry))) (leaf .bits) (leaf .partial)
+        (takenIn (kept .label) (kept .best) (now (minima .entry)))))
+        × Limited (vectorFor task (now (numbers .entry))) (takenIn (r .label) (r .best) (now (minima .exit)))
+        (limitsOf (now (minima .exit))) (r .widest) × (length (now (minima .exit)) ≡ 72) ⌝ }
 {
-    let n = sizes.streams * sizes.width;
-    note(n, node, partial, zeros, ones);
-    let best = better(partial, node, kept.best, kept.label);
-    limit_all(sizes, numbers, best.label, best.metric, zeros, ones, limits);
-    let widest = widest_of(limits, n);
+    let n = task.streams * task.width;
+    note(n, leaf.bits, leaf.partial, false, &mut minima[..24]);
+    note(n, leaf.bits, leaf.partial, true, &mut minima[24..48]);
+    let best = better(leaf.partial, leaf.bits, kept.best, kept.label);
+    limit_all(task, numbers, best, minima);
+    let widest = widest_of(&minima[48..], n);
     Kept {
         count: kept.count,
         stopped: kept.stopped,
@@ -353,6 +327,24 @@ fn with_symbol(symbol: usize, bits: usize, node: u32) -> u32
     ensures { λ r. ⌜ r ≡ symbol * 2 ^ bits + node ⌝ }
 {
     ((symbol as u32) << bits) | node
+}
+
+// The next child, the first of the smallest keys, which is then above every metric.
+fn next_child(task: Task, node: Node, keys: &mut [u64]) -> Node
+    requires { ⌜ (task .width ≤ 6) × (2 ^ task .width ≤ length (now keys)) × (0 < node .level) × (node .level ≤ task .streams)
+        × ((task .streams - node .level) * task .width ≤ 18) × (node .bits < 2 ^ ((task .streams - node .level) * task .width)) ⌝ }
+    ensures { λ r. ⌜ NextChild (task .streams) (task .width) (node .level) (node .bits) (now (keys .entry)) (now (keys .exit))
+        (r .level) (r .bits) (r .partial) ⌝ }
+{
+    let s = least_first(keys, 1 << task.width);
+    let partial = keys[s];
+    keys[s] = ABOVE;
+    let bits = with_symbol(s, (task.streams - node.level) * task.width, node.bits);
+    Node {
+        level: node.level - 1,
+        bits,
+        partial,
+    }
 }
 
 // One node more is counted.
@@ -384,74 +376,52 @@ fn halted(kept: Kept) -> Kept
     }
 }
 
-// The search below a node, with `level` streams to choose: its children in order, each cut, or searched, until they end.
+// The search below a node: its children in order, each cut, or searched, until they end. Their keys stand in front of those of the levels
+// below.
 fn walk(
-    level: usize,
-    sizes: Sizes,
-    allowance: u32,
-    node: u32,
-    partial: u64,
+    task: Task,
+    node: Node,
     kept: Kept,
     numbers: &[i32],
-    zeros: &mut [u64; 24],
-    ones: &mut [u64; 24],
-    limits: &mut [u64; 24],
+    tables: &[i32; 128],
+    minima: &mut [u64],
+    keys: &mut [u64],
 ) -> Kept
-    requires { ⌜ WalkAsked (sizes .streams) (sizes .width) (sizes .clip) (now numbers) level node partial
-        (takenOf (kept .label) (kept .best) (now zeros) (now ones)) (now limits) (kept .widest)
-        × (kept .stopped ≡ false) ⌝ }
-    ensures { λ r. ⌜ (keptOf (r .count) (r .stopped) (takenOf (r .label) (r .best) (now (zeros .exit)) (now (ones .exit)))
-        ≡ below (vectorAt (sizes .streams) (sizes .width) (sizes .clip) (now (numbers .entry))) allowance level node partial
-        (keptOf (kept .count) false (takenOf (kept .label) (kept .best) (now (zeros .entry)) (now (ones .entry)))))
-        × Limited (vectorAt (sizes .streams) (sizes .width) (sizes .clip) (now (numbers .entry)))
-        (takenOf (r .label) (r .best) (now (zeros .exit)) (now (ones .exit))) (now (limits .exit)) (r .widest) ⌝ }
+    requires { ⌜ WalkAsked (task .streams) (task .width) (task .clip) (now numbers) (node .level) (node .bits) (node .partial)
+        (takenIn (kept .label) (kept .best) (now minima)) (limitsOf (now minima)) (kept .widest)
+        × (kept .stopped ≡ false) × Tabled (task .streams) (task .width) (now numbers) (now tables)
+        × (length (now minima) ≡ 72) × (node .level * 2 ^ task .width ≤ length (now keys)) ⌝ }
+    ensures { λ r. ⌜ (keptOf (r .count) (r .stopped) (takenIn (r .label) (r .best) (now (minima .exit)))
+        ≡ below (vectorFor task (now (numbers .entry))) (task .allowance) (node .level) (node .bits) (node .partial)
+        (keptOf (kept .count) false (takenIn (kept .label) (kept .best) (now (minima .entry)))))
+        × Limited (vectorFor task (now (numbers .entry))) (takenIn (r .label) (r .best) (now (minima .exit)))
+        (limitsOf (now (minima .exit))) (r .widest) × (length (now (minima .exit)) ≡ 72) ⌝ }
 {
-    if level == 0 {
-        return take_leaf(sizes, numbers, node, partial, kept, zeros, ones, limits);
+    if node.level == 0 {
+        return take_leaf(task, node, kept, numbers, minima);
     }
-    let n: usize = 1 << sizes.width;
-    let bits = (sizes.streams - level) * sizes.width;
-    let free = (level - 1) * sizes.width;
-    let mut keys = [0u64; 64];
-    metric::children(
-        numbers,
-        sizes.streams,
-        sizes.width,
-        level - 1,
-        node,
-        partial,
-        &mut keys,
-    );
+    let shape = Shape {
+        streams: task.streams,
+        width: task.width,
+    };
+    metric::children(shape, node, numbers, tables, keys);
+    let n: usize = 1 << task.width;
     let mut k = kept;
     let mut tried = 0;
     while tried < n {
-        let s = least_first(&keys, n);
-        let d = keys[s];
-        keys[s] = ABOVE;
-        let child = with_symbol(s, bits, node);
-        match judge(
-            sizes.streams * sizes.width,
-            k,
-            limits,
-            allowance,
-            d,
-            free,
-            child,
-        ) {
+        let child = next_child(task, node, keys);
+        match judge(task, k, &minima[48..], child) {
             Verdict::Ended => return k,
             Verdict::Stop => return halted(k),
             Verdict::Enter => {
                 k = walk(
-                    level - 1,
-                    sizes,
-                    allowance,
+                    task,
                     child,
-                    d,
                     counted(k),
                     numbers,
-                    zeros,
-                    ones,
-                    limits,
+                    tables,
+                    minima,
+                    &mut keys[n..],
                 );
                 if k.stopped {
                     return k;
@@ -479,23 +449,17 @@ fn soft_value(one: u64, zero: u64, prior: i64, clip: u32) -> i32
 }
 
 // The soft values of all bits.
-fn write_soft(
-    sizes: Sizes,
-    numbers: &[i32],
-    zeros: &[u64; 24],
-    ones: &[u64; 24],
-    soft: &mut [i32; 24],
-)
-    requires { ⌜ SearchAsked (sizes .streams) (sizes .width) (sizes .clip) (now numbers) × MinimaLow (now zeros) (now ones) ⌝ }
+fn write_soft(task: Task, numbers: &[i32], minima: &[u64], soft: &mut [i32; 24])
+    requires { ⌜ Asked task (now numbers) × MinimaLow (zerosOf (now minima)) (onesOf (now minima)) × (length (now minima) ≡ 72) ⌝ }
     ensures { λ _. ⌜ now (soft .exit)
-        ≡ filled (valueOf (vectorAt (sizes .streams) (sizes .width) (sizes .clip) (now (numbers .entry)))
-        (takenOf 0 0 (now (zeros .entry)) (now (ones .entry)))) (sizes .streams * sizes .width) (now (soft .entry)) ⌝ }
+        ≡ filled (valueOf (vectorFor task (now (numbers .entry))) (takenIn 0 0 (now (minima .entry))))
+        (task .streams * task .width) (now (soft .entry)) ⌝ }
 {
-    let n = sizes.streams * sizes.width;
+    let n = task.streams * task.width;
     let mut i = 0;
     while i < n {
-        let prior = prior_at(sizes, numbers, i);
-        soft[i] = soft_value(ones[i], zeros[i], prior, sizes.clip);
+        let prior = prior_at(task, numbers, i);
+        soft[i] = soft_value(minima[24 + i], minima[i], prior, task.clip);
         i += 1;
     }
 }
@@ -508,36 +472,39 @@ pub struct Found {
 }
 
 // One vector's search under an allowance: its answer, the soft values at the front of `soft`.
-pub fn search_vector(numbers: &[i32], sizes: Sizes, allowance: u32, soft: &mut [i32; 24]) -> Found
-    requires { ⌜ SearchAsked (sizes .streams) (sizes .width) (sizes .clip) (now numbers) × (length (now soft) ≡ 24) ⌝ }
-    ensures { λ r. ⌜ Answered (vectorAt (sizes .streams) (sizes .width) (sizes .clip) (now (numbers .entry))) allowance
-        (r .stopped) (r .count) (r .label) (now (soft .entry)) (now (soft .exit)) ⌝ }
+pub fn search_vector(task: Task, numbers: &[i32], soft: &mut [i32; 24]) -> Found
+    requires { ⌜ Asked task (now numbers) × (length (now soft) ≡ 24) ⌝ }
+    ensures { λ r. ⌜ Answered (vectorFor task (now (numbers .entry))) (task .allowance) (r .stopped) (r .count) (r .label)
+        (now (soft .entry)) (now (soft .exit)) ⌝ }
 {
-    let mut zeros = [ABOVE; 24];
-    let mut ones = [ABOVE; 24];
-    let mut limits = [0u64; 24];
-    limit_all(sizes, numbers, 0, ABOVE, &zeros, &ones, &mut limits);
-    let widest = widest_of(&limits, sizes.streams * sizes.width);
-    let root = Kept {
+    let shape = Shape {
+        streams: task.streams,
+        width: task.width,
+    };
+    let mut tables = [0i32; 128];
+    metric::prepare(shape, numbers, &mut tables);
+    let mut minima = [ABOVE; 72];
+    let none = Best {
+        label: 0,
+        metric: ABOVE,
+    };
+    limit_all(task, numbers, none, &mut minima);
+    let widest = widest_of(&minima[48..], task.streams * task.width);
+    let start = Kept {
         count: 0,
         stopped: false,
         label: 0,
         best: ABOVE,
         widest,
     };
-    let end = walk(
-        sizes.streams,
-        sizes,
-        allowance,
-        0,
-        0,
-        root,
-        numbers,
-        &mut zeros,
-        &mut ones,
-        &mut limits,
-    );
-    write_soft(sizes, numbers, &zeros, &ones, soft);
+    let root = Node {
+        level: task.streams,
+        bits: 0,
+        partial: 0,
+    };
+    let mut keys = [0u64; 256];
+    let end = walk(task, root, start, numbers, &tables, &mut minima, &mut keys);
+    write_soft(task, numbers, &minima, soft);
     Found {
         stopped: end.stopped,
         count: end.count,

@@ -17,18 +17,18 @@ use Rattle.metric.proofs.axis_cost.Statement.{statement}
 use Rattle.metric.proofs.axis_cost.Tie as tie
 
 abbrev Inv-loop : tie.InvT-loop
-Inv-loop numbers at w label sum₀ i₀ sum i =
-    (i ≤ w) × (sum ≤ i * 2 ^ 31) × (axisCost (part numbers at w) w label ≡ sum + costFrom numbers at w label i)
+Inv-loop numbers from w label sum₀ i₀ sum i =
+    (i ≤ w) × (sum ≤ i * 2 ^ 31) × (axisCost (part numbers from w) w label ≡ sum + costFrom numbers from w label i)
 
 abbrev μ-loop : tie.MeasureT-loop
-μ-loop numbers at w label sum₀ i₀ sum i = w - i
+μ-loop numbers from w label sum₀ i₀ sum i = w - i
 
 loop-holds : tie.Need-loop-holds Inv-loop μ-loop
-loop-holds c = (omega arith, omega arith, omega (arith, cost-all (c .args .numbers .now) (c .args .at) (c .args .w) (c .args .label)))
+loop-holds c = (omega arith, omega arith, omega (arith, cost-all (c .args .numbers .now) (c .args .from) (c .args .w) (c .args .label)))
 
 -- The prior as it was read, and its cost
 abbrev priorOf : tie.After-prior Inv-loop μ-loop → ℤ
-priorOf c = getD (c .before .before .before .args .numbers .now) (c .before .before .before .args .at + c .before .before .loop .i) (pos 0)
+priorOf c = let a = c .before .before .before .args in getD (a .numbers .now) (a .from + c .before .before .loop .i) (pos 0)
 
 fits : (c : tie.After-prior Inv-loop μ-loop) → SFits w32 (priorOf c)
 fits c = sfits-of (c .prior .given)
@@ -58,7 +58,7 @@ loop-again c =
         arith,
         l .loop .inv .2,
         cost c,
-        cost-more (a .numbers .now) (a .at) (a .w) (a .label) (l .loop .i) (c .before .before .before .loop-test .taken),
+        cost-more (a .numbers .now) (a .from) (a .w) (a .label) (l .loop .i) (c .before .before .before .loop-test .taken),
       ),
     )
 
@@ -73,7 +73,7 @@ axis-cost-spec =
     (λ c. omega arith)
     (λ c. omega arith)
     (λ c. let f = fits c in simp toZ-ofZ (sfits-widen tt f))
-    (λ c κs. (c .before .loop-test .taken, omega (arith, c .before .before .before .pre .0)))
+    (λ c κs. (c .before .loop-test .taken, omega (arith, c .before .before .before .pre .bits)))
     (λ c κs. search needs)
     (λ c. omega (arith, small c))
     (λ c. omega arith)
@@ -81,7 +81,5 @@ axis-cost-spec =
     loop-again
     (λ c.
     let l = c .before in
-    let a = l .before .args in (
-      omega (arith, l .loop .inv .2, cost-none (a .numbers .now) (a .at) (a .w) (a .label) (l .loop .i) (c .loop-test .left)),
-      omega (arith, l .loop .inv .1, l .loop .inv .0, l .before .pre .0),
-    )))
+    let a = l .before .args in
+    omega (arith, l .loop .inv .2, cost-none (a .numbers .now) (a .from) (a .w) (a .label) (l .loop .i) (c .loop-test .left))))

@@ -1,95 +1,61 @@
--- The residual is below 2^31, so its square and the cost stay below 2^62 together.
+-- The residual is below 2^31, so its square and the cost stay below 2^63 together.
 use borrow.Author.Needs.{sfits-of}
-use mathlib.Core.Path.{_≡_, ap, ap₂, _∙_}
+use mathlib.Core.Path.{_≡_, ap, sym, subst, _∙_}
 use Prim.Native.Nat.{ℕ, _+_, _*_, _≤_, _<_, _^_}
 use native.Mathlib.Omega.{arith}
 use native.Mathlib.Nat.{mul-le-mul}
-use lib.IntN.{ℤ, natAbs, _-ℤ_, _*ℤ_}
-use lib.Pow.{pow-mono}
+use lib.Dec.{T}
+use lib.IntN.{ℤ, natAbs, _-ℤ_}
+use lib.Signed.{nonNeg, natAbs-le}
 use mir.Syntax.{w64}
 use mir.Val.{SFits}
-use mir.Facts.{toZ-ofZ}
-use Rattle.integers.proofs.Magnitudes.{natAbs-sub, natAbs-mul-le}
-use Rattle.model.specs.Constellation.{amplitude, bitsOf}
-use Rattle.model.proofs.Gray.{amplitude-below}
-use Rattle.model.proofs.Numbers.{length-bitsOf}
-use Rattle.metric.specs.Parts.{axisPart}
+use mir.Facts.{toZ-ofZ, sfits-widen, fits-natAbs}
+use Rattle.integers.proofs.Magnitudes.{natAbs-sub}
 use Rattle.metric.proofs.axis_part.Statement.{statement}
 use Rattle.metric.proofs.axis_part.Tie as tie
 
-small : (c : tie.After-amplitude) → natAbs (c .amplitude .result) < 2 ^ 4
-small c =
-    let a = c .before .args in
-    let w : 2 ^ a .w ≤ 2 ^ 3 = pow-mono (c .before .pre .0 .bits) in
-    omega (
-      arith,
-      ap natAbs (c .amplitude .ensures),
-      amplitude-below (bitsOf (a .w) (a .label)),
-      ap (λ (n : ℕ). 2 ^ n) (length-bitsOf (a .w) (a .label)),
-    )
-
-amplitude-fits : (c : tie.After-amplitude) → SFits w64 (c .amplitude .result)
-amplitude-fits c = sfits-of (c .amplitude .ok)
+wide : (c : tie.Start) → SFits w64 (c .args .product)
+wide c = sfits-widen tt (c .fits .product)
 
 -- The residual as it was worked out, and its size
-residual : (c : tie.After-axis-residual)
-    → c .axis-residual .result
-    ≡ c .before .before .args .left -ℤ c .before .before .args .diagonal *ℤ c .before .amplitude .result
+residual : (c : tie.After-less) → c .less .result ≡ c .before .args .left -ℤ c .before .args .product
 residual c =
-    let l = c .before .before .fits .left in
-    let d = c .before .before .fits .diagonal in
-    let a = amplitude-fits (c .before) in
-    simp toZ-ofZ at (c .axis-residual .ensures)
+    let l = c .before .fits .left in
+    let p = c .before .fits .product in
+    let f = wide (c .before) in
+    simp toZ-ofZ at (c .less .ensures)
 
-size : (c : tie.After-axis-residual) → natAbs (c .axis-residual .result) ≤ 2 ^ 30 + 2 ^ 15
+size : (c : tie.After-less) → natAbs (c .less .result) < 2 ^ 31
 size c =
-    let a = c .before .before .args in
-    omega (
-      arith,
-      ap natAbs (residual c),
-      natAbs-sub (a .left) (a .diagonal *ℤ c .before .amplitude .result),
-      natAbs-mul-le (a .diagonal) (c .before .amplitude .result) {m = 2 ^ 11} {n = 2 ^ 4}
-          (omega (arith, c .before .before .pre .0 .entry))
-          (omega (arith, small (c .before))),
-      c .before .before .pre .0 .remains,
-    )
+    let s = c .before in
+    omega (arith, ap natAbs (residual c), natAbs-sub (s .args .left) (s .args .product), s .pre .0, s .pre .1)
 
-square : (c : tie.After-square) → c .square .result ≡ natAbs (c .before .axis-residual .result) * natAbs (c .before .axis-residual .result)
-square c =
-    let f : SFits w64 (c .before .axis-residual .result) = sfits-of (c .before .axis-residual .ok) in
-    simp toZ-ofZ at (c .square .ensures)
+square : (c : tie.After-square) → c .square .result ≡ natAbs (c .before .less .result) * natAbs (c .before .less .result)
+square c = let f : SFits w64 (c .before .less .result) = sfits-of (c .before .less .ok) in simp toZ-ofZ at (c .square .ensures)
 
-sum : (c : tie.After-axis-cost) → c .before .square .result + c .axis-cost .result < 2 ^ 62
-sum c = omega (arith, square (c .before), mul-le-mul (size (c .before .before)) (size (c .before .before)), c .axis-cost .ensures .1)
+small : (c : tie.After-square) → natAbs (c .before .less .result) ≤ 2 ^ 31
+small c = omega (arith, size (c .before))
 
-returns : tie.Need-returns
-unfolding axisPart
-returns c =
-    let n = c .before .before .before .before in (
-      ap₂ _+_
-          (square (c .before)
-          ∙ ap (λ (z : ℤ). natAbs z * natAbs z)
-          (residual (c .before .before)
-          ∙ ap (λ (x : ℤ). n .args .left -ℤ n .args .diagonal *ℤ x) (c .before .before .before .amplitude .ensures)))
-          (c .axis-cost .ensures .0),
-      sum c,
-    )
+plain : (c : tie.Start) → T (nonNeg (c .args .cost))
+plain c = subst (λ (z : ℤ). T (nonNeg z)) (sym (c .pre .2)) tt
 
 pub axis-part-spec : {M : Type 1} → statement M
 axis-part-spec =
     tie.close
     (tie.spec
-    (λ c κs. (c .pre .0 .bits, c .pre .1))
+    (λ c. let p = c .fits .product in simp toZ-ofZ (wide c))
     (λ c κs.
-    let l = c .before .fits .left in
-    let d = c .before .fits .diagonal in
-    let a = amplitude-fits c in
-    simp toZ-ofZ (c .before .pre .0 .remains, c .before .pre .0 .entry, small c))
-    (λ c κs. let f : SFits w64 (c .axis-residual .result) = sfits-of (c .axis-residual .ok) in simp toZ-ofZ (omega (arith, size c)))
+    let l = c .fits .left in
+    let p = c .fits .product in
+    let f = wide c in
+    simp toZ-ofZ (c .pre .0, c .pre .1))
+    (λ c κs. let f : SFits w64 (c .less .result) = sfits-of (c .less .ok) in simp toZ-ofZ (size c))
+    (λ c. let s = c .before .before in let f = s .fits .cost in simp toZ-ofZ (plain s, fits-natAbs tt f))
     (λ c.
-    let s = c .before .before .before in
-    let w : 2 ^ s .args .w ≤ 2 ^ 3 = pow-mono (s .pre .0 .bits) in
-    omega (arith, s .pre .1))
-    (λ c κs. let p = c .before .before .before .pre .0 in (p .bits, p .place, p .room))
-    (λ c. omega (arith, sum c))
-    returns)
+    let s = c .before .before in
+    let f = s .fits .cost in
+    simp toZ-ofZ (omega (arith, square c, mul-le-mul (small c) (small c), natAbs-le (s .args .cost) (f .sfits))))
+    (λ c.
+    let s = c .before .before in
+    let f = s .fits .cost in
+    simp toZ-ofZ (ap (λ (x : ℕ). x + natAbs (s .args .cost)) (square c ∙ ap (λ (z : ℤ). natAbs z * natAbs z) (residual (c .before))))))

@@ -1,7 +1,7 @@
 -- A shift and a mask of one bit read the bit off.
 use borrow.Author.Needs.{needs}
-use mathlib.Core.Path.{_≡_, ap}
-use Prim.Native.Nat.{ℕ, suc, _-_, _/_, _^_}
+use mathlib.Core.Path.{_≡_, ap, _∙_}
+use Prim.Native.Nat.{ℕ, suc, _-_, _/_, _%_, _^_}
 use native.Mathlib.Omega.{arith}
 use lib.Bits.{and-mask}
 use lib.Dec.{eqb}
@@ -14,7 +14,7 @@ unfolding bitOf
 returns c =
     let a = c .args in
     let e : a .n - 1 - a .i ≡ a .n - suc (a .i) = omega arith in
-    rw e (ap (λ (k : ℕ). eqb k 1) (and-mask (a .label / 2 ^ (a .n - suc (a .i))) 1))
+    ap (λ (k : ℕ). eqb k 1) (and-mask (a .label / 2 ^ (a .n - 1 - a .i)) 1) ∙ ap (λ (k : ℕ). eqb (a .label / 2 ^ k % 2) 1) e
 
 pub bit-at-spec : {M : Type 1} → statement M
 bit-at-spec = tie.close (tie.spec (λ c. search needs) (λ c. search needs) (λ c. search needs) (λ c. search needs) returns)

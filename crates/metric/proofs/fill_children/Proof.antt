@@ -1,73 +1,83 @@
--- The invariant: the first s children have their whole partial metric, and the other places are as before the pass.
-use mathlib.Core.Path.{_≡_, refl, subst}
-use Prim.Native.Nat.{ℕ, _≤_, _<_, _-_, _+_, _/_, _%_, _^_}
+-- The invariant: the children of the first a real labels have their whole partial metric, and the other places are as before the pass.
+use mathlib.Core.Path.{_≡_, ap, _∙_}
+use Prim.Native.Nat.{_+_, _-_, _*_, _/_, _%_, _^_, _≤_, _<_}
+use native.Mathlib.Nat.{zero-mul}
 use native.Mathlib.Omega.{arith}
-use native.Mathlib.Nat.{mod-lt}
-use lib.ListN.{getD}
-use lib.Pow.{pow-mono, pow-pos, shr-lt}
-use Rattle.metric.specs.Parts.{childMetric, filled}
-use Rattle.metric.proofs.Filled.{filled-more}
+use lib.ListN.{length}
+use lib.Pow.{pow-mono}
+use Rattle.metric.specs.Parts.{axisWidth, span, filled}
+use Rattle.metric.proofs.Filled.{filled-length}
+use Rattle.metric.proofs.Grid.{childrenOf, rows-all, row-room, row-more}
 use Rattle.metric.proofs.Shifts.{one-shifted}
 use Rattle.metric.proofs.fill_children.Statement.{statement}
 use Rattle.metric.proofs.fill_children.Tie as tie
 
 abbrev Inv-loop : tie.InvT-loop
-Inv-loop q partial re im keys₀ n s₀ keys s =
-    (n ≡ 2 ^ q) × (s ≤ n) × (keys ≡ filled (childMetric q partial (λ a. getD re a 0) (λ b. getD im b 0)) s keys₀)
+Inv-loop q partial re im keys₀ rows n a₀ keys a =
+    (rows ≡ 2 ^ (q - q / 2)) × (n ≡ 2 ^ (q / 2)) × (a ≤ rows) × (keys ≡ filled (childrenOf q partial re im) (a * n) keys₀)
 
 abbrev μ-loop : tie.MeasureT-loop
-μ-loop q partial re im keys₀ n s₀ keys s = n - s
+μ-loop q partial re im keys₀ rows n a₀ keys a = rows - a
 
 loop-holds : tie.Need-loop-holds Inv-loop μ-loop
 unfolding filled
-loop-holds c = (one-shifted (c .args .q) (omega (arith, c .pre .0)), omega arith, refl)
+loop-holds c =
+    let s = c .before in
+    let q = s .args .q in
+    let z : 0 * (1 * 2 ^ (q / 2) % 2 ^ 64) ≡ 0 = zero-mul _ in
+    (one-shifted (q - q / 2) (omega (arith, s .pre .0)), one-shifted (q / 2) (omega (arith, s .pre .0)), omega arith, rw z)
 
-few : (c : tie.At-loop Inv-loop μ-loop) → 2 ^ c .before .args .q ≤ 2 ^ 6
-few c = pow-mono (c .before .pre .0)
+-- A row has at most a span of places, and there are at most as many rows
+few-columns : (c : tie.At-loop Inv-loop μ-loop) → 2 ^ (c .before .before .args .q / 2) ≤ span
+few-columns c = let s = c .before .before in let h : s .args .q / 2 ≤ axisWidth = omega (arith, s .pre .0) in pow-mono h
 
--- The two halves of a label are labels of axes of at most 3 bits
-upper : (q s : ℕ) → q ≤ 6 → s < 2 ^ q → s / 2 ^ (q / 2) < 8
-upper q s h k =
-    let e : q ≡ q - q / 2 + q / 2 = omega arith in
-    let few : q - q / 2 ≤ 3 = omega arith in
-    let w : 2 ^ (q - q / 2) ≤ 2 ^ 3 = pow-mono few in
-    omega (arith, shr-lt (q - q / 2) (q / 2) (subst (λ (x : ℕ). s < 2 ^ x) e k))
+below : (c : tie.In-loop Inv-loop μ-loop) → let q = c .before .before .before .args .q in c .before .loop .a < 2 ^ (q - q / 2)
+below c = omega (arith, c .before .loop .inv .0, c .loop-test .taken)
 
-lower : (q s : ℕ) → q ≤ 6 → s % 2 ^ (q / 2) < 8
-lower q s h = let few : q / 2 ≤ 3 = omega arith in let w : 2 ^ (q / 2) ≤ 2 ^ 3 = pow-mono few in omega (arith, mod-lt s (pow-pos (q / 2)))
-
-real : (c : tie.After-real-label Inv-loop μ-loop) → c .real-label .result < 8
-real c =
+few-rows : (c : tie.In-loop Inv-loop μ-loop) → c .before .loop .a < span
+few-rows c =
     let s = c .before .before .before in
-    let h : c .before .before .loop .s < 2 ^ s .args .q = omega arith in
-    rw (c .real-label .ensures) (upper (s .args .q) (c .before .before .loop .s) (s .pre .0) h)
+    let r : s .args .q - s .args .q / 2 ≤ axisWidth = omega (arith, s .pre .0) in
+    omega (arith, below c, pow-mono r)
 
-imaginary : (c : tie.After-imaginary-label Inv-loop μ-loop) → c .imaginary-label .result < 8
-imaginary c =
-    let s = c .before .before .before .before in
-    rw (c .imaginary-label .ensures) (lower (s .args .q) (c .before .before .before .loop .s) (s .pre .0))
+same-length : (c : tie.At-loop Inv-loop μ-loop) → length (c .loop .keys) ≡ length (c .before .before .args .keys .now)
+same-length c = ap length (c .loop .inv .3) ∙ filled-length _ _ _
 
-sizes : (c : tie.After-keys2 Inv-loop μ-loop)
-    → getD (c .before .before .before .before .before .before .args .re .now) (c .before .before .before .real-label .result) 0
-    + getD (c .before .before .before .before .before .before .args .im .now) (c .before .before .imaginary-label .result) 0 < 2 ^ 63
-sizes c =
-    let s = c .before .before .before .before .before .before in
-    omega (arith, s .pre .2 (c .before .before .before .real-label .result), s .pre .3 (c .before .before .imaginary-label .result))
+-- A row's places are within the keys
+room : (c : tie.In-loop Inv-loop μ-loop)
+    → let s = c .before .before .before in
+    c .before .loop .a * (1 * 2 ^ (s .args .q / 2) % 2 ^ 64) + 2 ^ (s .args .q / 2) ≤ 2 ^ s .args .q
+room c = let s = c .before .before .before in rw (c .before .loop .inv .1) (row-room (s .args .q) (c .before .loop .a) (below c))
+
+fill-row-requires : tie.Need-fill-row-requires Inv-loop μ-loop
+fill-row-requires c κs =
+    let i = c .before .before in
+    let l = i .before in
+    let s = l .before .before in (
+      omega (arith, s .pre .1, s .pre .2 (l .loop .a)),
+      s .pre .3,
+      omega (arith, l .loop .inv .1, few-columns l),
+      omega (arith, l .loop .inv .1, room i, same-length l, s .pre .4),
+    )
 
 loop-again : tie.Need-loop-again Inv-loop μ-loop
-unfolding childMetric
 loop-again c =
-    let l = c .before .before .before .before .before in
-    let a = l .before .args in (
+    let l = c .before .before .before .before .before .before in
+    let s = l .before .before .args in (
       l .loop .inv .0,
-      omega arith,
-      rw (c .before .before .before .real-label .ensures, c .before .before .imaginary-label .ensures, l .loop .inv .2)
-          (filled-more (childMetric (a .q) (a .partial) (λ x. getD (a .re .now) x 0) (λ x. getD (a .im .now) x 0)) (l .loop .s)
-          (a .keys .now)),
+      l .loop .inv .1,
+      omega (arith, c .before .before .before .before .before .loop-test .taken),
+      row-more (s .q) (s .partial) (s .re .now) (s .im .now) (l .loop .a) _ (s .keys .now) (l .loop .keys) _ (l .loop .inv .1)
+          (l .loop .inv .3) (c .before .before .fill-row .ensures),
     )
 
 returns : tie.Need-returns Inv-loop μ-loop
-returns c = let e : c .before .loop .s ≡ 2 ^ c .before .before .args .q = omega arith in rw e at (c .before .loop .inv .2)
+returns c =
+    let l = c .before in
+    let q = l .before .before .args .q in
+    let a : l .loop .a ≡ 2 ^ (q - q / 2) = omega (arith, l .loop .inv .0, l .loop .inv .2, c .loop-test .left) in
+    let e : l .loop .a * (1 * 2 ^ (q / 2) % 2 ^ 64) ≡ 2 ^ q = rw (a, l .loop .inv .1) (rows-all q) in
+    rw e at (l .loop .inv .3)
 
 pub fill-children-spec : {M : Type 1} → statement M
 fill-children-spec =
@@ -75,19 +85,17 @@ fill-children-spec =
     (tie.spec
     Inv-loop
     μ-loop
-    (λ c. omega (arith, c .pre .0))
+    (λ c. omega arith)
+    (λ c. omega (arith, c .before .pre .0))
+    (λ c. omega (arith, c .before .pre .0))
     loop-holds
-    (λ c κs. c .before .before .pre .0)
-    (λ c κs. c .before .before .before .pre .0)
-    (λ c. omega (arith, real (c .before)))
-    (λ c. real (c .before))
-    (λ c. omega (arith, imaginary (c .before)))
-    (λ c. imaginary (c .before))
-    (λ c. omega (arith, sizes c))
-    (λ c. omega (arith, sizes c, c .before .before .before .before .before .before .pre .1))
-    (λ c. omega (arith, few (c .before .before .before .before .before)))
-    (λ c. omega (arith, few (c .before .before .before .before .before)))
-    (λ c. omega arith)
-    (λ c. omega arith)
+    (λ c. omega (arith, few-rows c))
+    few-rows
+    (λ c. let s = c .before .before .before .before in omega (arith, s .pre .1, s .pre .2 (c .before .before .loop .a)))
+    (λ c. let h = c .before .before .before .before .pre .0 in omega (arith, room (c .before), pow-mono h))
+    fill-row-requires
+    (λ c. omega (arith, few-rows (c .before .before .before .before .before)))
+    (λ c. omega (arith, c .before .before .before .before .before .loop-test .taken))
     loop-again
+    (λ c. same-length (c .before))
     returns)

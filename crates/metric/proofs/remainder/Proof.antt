@@ -1,5 +1,5 @@
 -- The invariant: what is left so far, less the entries from t on times their points, is what remains in the end; and each turn adds at
--- most 28,658 to the magnitude of a part.
+-- most the largest term to the magnitude of a part.
 use borrow.Author.Needs.{sfits-of}
 use mathlib.Core.Path.{_≡_, ap, sym, subst, _∙_}
 use Prim.Native.Nat.{ℕ, _+_, _-_, _*_, _≤_, _<_, _^_}
@@ -13,10 +13,11 @@ use mir.Facts.{toZ-ofZ}
 use Rattle.integers.proofs.Fits.{sfits-abs}
 use Rattle.integers.proofs.Magnitudes.{natAbs-sub}
 use Rattle.model.specs.Constellation.{_⊖_}
+use Rattle.model.specs.Block.{mostWidth, mostReceived}
 use Rattle.constellation.specs.Axis.{complexOf}
 use Rattle.metric.specs.Rows.{rowStart}
 use Rattle.metric.proofs.Rows.{row-end, square-few, entry-within, received-within}
-use Rattle.metric.proofs.Remainders.{remains, rest-of, rest-start, rest-turn, rest-done, term-few}
+use Rattle.metric.proofs.Remainders.{remains, rest-of, rest-start, rest-turn, rest-done, mostTerm, term-few}
 use Rattle.metric.proofs.remainder.Statement.{statement}
 use Rattle.metric.proofs.remainder.Tie as tie
 
@@ -24,8 +25,8 @@ use Rattle.metric.proofs.remainder.Tie as tie
 abbrev Inv-loop : tie.InvT-loop
 Inv-loop numbers m q level node start later received re₀ im₀ t₀ re im t =
     (t ≤ m - (level + 1))
-    × (natAbs (toZ w64 re) ≤ 131071 + t * 28658)
-    × (natAbs (toZ w64 im) ≤ 131071 + t * 28658)
+    × (natAbs (toZ w64 re) ≤ mostReceived + t * mostTerm)
+    × (natAbs (toZ w64 im) ≤ mostReceived + t * mostTerm)
     × (remains m q numbers level node ≡ complexOf (toZ w64 re) (toZ w64 im) ⊖ rest-of m q numbers level node t)
 
 abbrev μ-loop : tie.MeasureT-loop
@@ -54,7 +55,7 @@ loop-holds c =
 -- How many bits stand after the symbol of a turn
 place-few : (c : tie.In-loop Inv-loop μ-loop)
     → (c .before .before .before .before .args .m - (c .before .before .before .before .args .level + 1) - c .before .loop .t - 1)
-    * c .before .before .before .before .args .q ≤ 18
+    * c .before .before .before .before .args .q ≤ 3 * mostWidth
 place-few c =
     let s = c .before .before .before .before in
     let few : s .args .m - (s .args .level + 1) - c .before .loop .t - 1 ≤ 3 = omega (arith, s .pre .0 .streams) in
@@ -74,7 +75,7 @@ term-requires c κs =
       imaginary = e .im;
     }
 
-few : (c : tie.After-term Inv-loop μ-loop) → (natAbs (c .term .result .re) ≤ 28658) × (natAbs (c .term .result .im) ≤ 28658)
+few : (c : tie.After-term Inv-loop μ-loop) → (natAbs (c .term .result .re) ≤ mostTerm) × (natAbs (c .term .result .im) ≤ mostTerm)
 few c =
     let s = c .before .before .before .before .before .before in
     let l = c .before .before .before in

@@ -1,4 +1,4 @@
--- The product by its parts: an entry's are within 2,047 and a point's within 7.
+-- The product by its parts: an entry's are within 2,047 and a point's below the span.
 use borrow.Author.Needs.{needs, sfits-of}
 use mathlib.Core.Path.{ap, _∙_}
 use native.Mathlib.Omega.{arith}

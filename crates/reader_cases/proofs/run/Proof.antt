@@ -1,18 +1,16 @@
 -- What was read is stored in the list, which keeps its length.
 use borrow.Author.Needs.{needs}
-use mathlib.Core.Path.{_≡_, ap, _∙_}
+use mathlib.Core.Path.{_≡_, _∙_}
 use lib.ListN.{length}
-use lib.Seq.{length-sets}
-use Rattle.block.specs.Reading.{Got, readWhole}
+use Rattle.block.specs.Reading.{readWhole}
+use Rattle.block.proofs.Parts.{into-length}
 use Rattle.reader_cases.proofs.run.Statement.{statement}
 use Rattle.reader_cases.proofs.run.Tie as tie
 
 kept : (c : tie.After-read-whole) → length (c .read-whole .last .1 .0) ≡ 3077
 kept c =
     let s = c .before .before .before in
-    ap (λ (g : Got). length (g .list)) (c .read-whole .ensures)
-    ∙ length-sets (s .args .numbers .now) 0 (readWhole (s .args .record .now) .numbers)
-    ∙ s .pre
+    into-length 0 (readWhole (s .args .record .now)) _ (s .args .numbers .now) _ (c .read-whole .ensures) ∙ s .pre
 
 pub run-spec : {M : Type 1} → statement M
 run-spec =

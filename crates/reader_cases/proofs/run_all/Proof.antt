@@ -4,8 +4,8 @@ use mathlib.Core.Path.{_≡_}
 use Prim.Native.Nat.{_-_}
 use native.Mathlib.Omega.{arith}
 use lib.ListN.{length}
-use Rattle.reader_cases.specs.Cases.{Within}
-use Rattle.reader_cases.specs.declared.Case.the-variants.{Bytes}
+use Rattle.cases.specs.Cases.{Within}
+use Rattle.cases.specs.declared.Case.the-variants.{Bytes}
 use Rattle.reader_cases.proofs.run_all.Statement.{statement}
 use Rattle.reader_cases.proofs.run_all.Tie as tie
 

@@ -1,5 +1,5 @@
 -- At most B, or else below the widest limit.
-use mathlib.Core.Path.{_≡_, sym, _∙_}
+use mathlib.Core.Path.{sym}
 use borrow.Author.Tests.{le-leb, lt-leb}
 use Rattle.search.proofs.is_within.Statement.{statement}
 use Rattle.search.proofs.is_within.Tie as tie

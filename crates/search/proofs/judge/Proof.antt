@@ -4,7 +4,6 @@ use mathlib.Core.Bool.{true, false, _||_}
 use mathlib.Core.List.{List}
 use Prim.Native.Nat.{ℕ, _≤_, _<_}
 use lib.Dec.{leb, ltb}
-use native.Mathlib.Omega.{arith}
 use borrow.Author.Needs.{needs}
 use borrow.Author.Tests.{lt-ltb, le-ltb, not-true, not-false}
 use Rattle.search.specs.Limits.{passingBy, verdictBy}
@@ -35,25 +34,32 @@ module _ (n count label best widest : ℕ) (limits : List ℕ) (allowance d free
 returns : tie.Need-returns
 returns c = ended _ _ _ _ _ _ _ _ _ _ (sym (c .before .is-within .ensures) ∙ not-true _ (c .if1 .taken))
 
+-- What is known behind the two tests
+within : (c : tie.Else1) → (leb (c .before .before .before .args .child .partial) (c .before .before .before .args .kept .best) || ltb (c .before .before .before .args .child .partial) (c .before .before .before .args .kept .widest)) ≡ true
+within c = sym (c .before .is-within .ensures) ∙ not-false _ (c .if1 .left)
+
 returns-2 : tie.Need-returns-2
-returns-2 c =
-    let w = c .before .before in
-    cut _ _ _ _ _ _ _ _ _ _ (sym (w .before .is-within .ensures) ∙ not-false _ (w .if1 .left))
-    (sym (c .before .passes .ensures) ∙ not-true _ (c .if2 .taken))
+returns-2 c = cut _ _ _ _ _ _ _ _ _ _ (within (c .before .before .before .before .before)) (sym (c .before .passes .ensures) ∙ not-true _ (c .if2 .taken))
 
 returns-3 : tie.Need-returns-3
 returns-3 c =
     let p = c .before .before .before in
-    let w = p .before in
-    enter _ _ _ _ _ _ _ _ _ _ (sym (w .before .is-within .ensures) ∙ not-false _ (w .if1 .left))
-    (sym (p .passes .ensures) ∙ not-false _ (c .before .before .if2 .left)) (c .if3 .taken)
+    enter _ _ _ _ _ _ _ _ _ _ (within (p .before .before .before .before .before)) (sym (p .before .passes .ensures) ∙ not-false _ (p .if2 .left)) (c .if3 .taken)
 
 returns-4 : tie.Need-returns-4
 returns-4 c =
     let p = c .before .before .before in
-    let w = p .before in
-    stop _ _ _ _ _ _ _ _ _ _ (sym (w .before .is-within .ensures) ∙ not-false _ (w .if1 .left))
-    (sym (p .passes .ensures) ∙ not-false _ (c .before .before .if2 .left)) (c .if3 .left)
+    stop _ _ _ _ _ _ _ _ _ _ (within (p .before .before .before .before .before)) (sym (p .before .passes .ensures) ∙ not-false _ (p .if2 .left)) (c .if3 .left)
 
 pub judge-spec : {M : Type 1} → statement M
-judge-spec = tie.close (tie.spec (λ c κs. search needs) returns (λ c κs. c .before .before .pre) returns-2 returns-3 returns-4)
+judge-spec =
+    tie.close
+    (tie.spec
+    (λ c κs. search needs)
+    returns
+    (λ c. search needs)
+    (λ c. search needs)
+    (λ c κs. let s = c .before .before .before .before .before .before in (s .pre .0, s .pre .1))
+    returns-2
+    returns-3
+    returns-4)

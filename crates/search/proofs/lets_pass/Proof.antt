@@ -1,8 +1,7 @@
 -- The limit first, then the bit.
 use borrow.Author.Needs.{needs}
 use borrow.Author.Tests.{lt-ltb, le-ltb}
-use mathlib.Core.Path.{_≡_, sym, _∙_}
-use native.Mathlib.Omega.{arith}
+use mathlib.Core.Path.{sym, _∙_}
 use Rattle.search.specs.Limits.{letsBy}
 use Rattle.search.proofs.lets_pass.Statement.{statement}
 use Rattle.search.proofs.lets_pass.Tie as tie
@@ -16,4 +15,4 @@ unfolding letsBy
 returns-2 c = c .is-open .ensures ∙ sym (rw (lt-ltb _ _ (c .before .if1 .left)))
 
 pub lets-pass-spec : {M : Type 1} → statement M
-lets-pass-spec = tie.close (tie.spec (λ c. search needs) (λ c. omega arith) returns (λ c κs. c .before .before .pre) returns-2)
+lets-pass-spec = tie.close (tie.spec (λ c. search needs) (λ c. search needs) returns (λ c κs. search needs) returns-2)

@@ -1,33 +1,52 @@
--- After i turns the first i limits are filled in.
-use Prim.Native.Nat.{ℕ, _≤_, _<_, _*_, _-_}
-use mathlib.Core.Path.{_≡_, refl, sym, _∙_}
-use native.Mathlib.Nat.{mul-le-mul}
+-- After i turns the first i limits are filled in, behind minima that stay.
+use Prim.Native.Nat.{ℕ, _≤_, _+_, _*_, _-_}
+use mathlib.Core.Path.{_≡_, refl, sym, ap, ap₂, _∙_}
+use mathlib.Core.List.{List, _++_}
 use native.Mathlib.Omega.{arith}
+use lib.ListN.{length, set, take, take-append-drop, length-drop}
 use Rattle.metric.specs.Parts.{filled}
-use Rattle.metric.proofs.Filled.{filled-more}
-use Rattle.search.specs.Program.{takenOf}
-use Rattle.search.specs.Limits.{vectorAt, limitAt}
+use Rattle.metric.proofs.Filled.{filled-more, filled-length}
+use Rattle.search.specs.Program.{Taken, takenIn, limitsOf}
+use Rattle.search.specs.Limits.{vectorFor, limitAt}
+use Rattle.search.proofs.Minima.{taken-kept, limits-whole, limit-set}
+use Rattle.search.proofs.Values.{few}
 use Rattle.search.proofs.limit_all.Statement.{statement}
 use Rattle.search.proofs.limit_all.Tie as tie
 
 abbrev Inv-loop : tie.InvT-loop
-Inv-loop sizes numbers label best zeros ones limits₀ n i₀ limits i =
-    (n ≡ sizes .streams * sizes .width) × (i ≤ n)
-    × (limits
-    ≡ filled (limitAt (vectorAt (sizes .streams) (sizes .width) (sizes .clip) numbers) (takenOf label best zeros ones)) i limits₀)
+Inv-loop task numbers best minima₀ n i₀ minima i =
+    (n ≡ task .streams * task .width) × (i ≤ n)
+    × (minima
+    ≡ take 48 minima₀ ++ filled (limitAt (vectorFor task numbers) (takenIn (best .label) (best .metric) minima₀)) i (limitsOf minima₀))
 
 abbrev μ-loop : tie.MeasureT-loop
-μ-loop sizes numbers label best zeros ones limits₀ n i₀ limits i = n - i
-
-few : (c : tie.Start Inv-loop μ-loop) → c .args .sizes .streams * c .args .sizes .width ≤ 24
-few c = omega (arith, mul-le-mul (c .pre .0 .vector .streams) (c .pre .0 .vector .bits))
+μ-loop task numbers best minima₀ n i₀ minima i = n - i
 
 loop-holds : tie.Need-loop-holds Inv-loop μ-loop
 unfolding filled
-loop-holds c = (refl, omega arith, refl)
+loop-holds c = (refl, omega arith, sym (take-append-drop 48 _))
+
+whole : (c : tie.At-loop Inv-loop μ-loop) → length (c .loop .minima) ≡ 72
+whole c =
+    let l = c .before .before .before .args .minima .now in
+    ap length (c .loop .inv .2)
+    ∙ limits-whole l (c .before .before .before .pre .2) _ (filled-length _ _ (limitsOf l) ∙ omega (arith, length-drop 48 l, c .before .before .before .pre .2))
 
 loop-again : tie.Need-loop-again Inv-loop μ-loop
-loop-again c = (refl, omega arith, rw (c .limit-at .ensures, c .before .before .loop .inv .2) (filled-more (limitAt _ _) _ _))
+loop-again c =
+    let l = c .before .before .before in
+    let s = l .before .before .before in
+    let a = s .args in
+    let v = vectorFor (a .task) (a .numbers .now) in
+    let f = limitAt v (takenIn (a .best .label) (a .best .metric) (a .minima .now)) in
+    let kept = taken-kept (a .minima .now) (s .pre .2) _ (a .best .label) (a .best .metric) in (
+      refl,
+      omega arith,
+      ap₂ (λ (x : List ℕ) (u : ℕ). set x (48 + l .loop .i) u) (l .loop .inv .2)
+          (c .limit-at .ensures ∙ ap (λ (t : Taken). limitAt v t (l .loop .i)) (ap (takenIn (a .best .label) (a .best .metric)) (l .loop .inv .2) ∙ kept))
+          ∙ limit-set (a .minima .now) (s .pre .2) _ (l .loop .i) _
+          ∙ ap (λ (x : List ℕ). take 48 (a .minima .now) ++ x) (filled-more f (l .loop .i) (limitsOf (a .minima .now))),
+    )
 
 pub limit-all-spec : {M : Type 1} → statement M
 limit-all-spec =
@@ -35,13 +54,15 @@ limit-all-spec =
     (tie.spec
     Inv-loop
     μ-loop
-    (λ c. omega (arith, few (c .before)))
+    (λ c. omega (arith, few (c .before .before .pre .0 .vector)))
     loop-holds
-    (λ c κs. let s = c .before .before .before in (s .pre .0, omega arith, s .pre .1))
-    (λ c. omega (arith, few (c .before .before .before .before)))
-    (λ c. omega (arith, few (c .before .before .before .before)))
-    (λ c. omega (arith, few (c .before .before .before .before)))
+    (λ c κs. let s = c .before .before .before .before .before in (s .pre .0, omega arith, s .pre .1, whole (c .before .before)))
+    (λ c. omega (arith, few (c .before .before .before .before .before .before .pre .0 .vector)))
+    (λ c. omega (arith, few (c .before .before .before .before .before .before .pre .0 .vector)))
+    (λ c. omega (arith, few (c .before .before .before .before .before .before .pre .0 .vector), whole (c .before .before .before)))
+    (λ c. omega (arith, few (c .before .before .before .before .before .before .pre .0 .vector)))
     (λ c. omega arith)
     loop-again
-    (λ c. let e : c .before .loop .i ≡ c .before .before .before .args .sizes .streams * c .before .before .before .args .sizes .width = omega arith in
+    (λ c. whole (c .before) ∙ sym (c .before .before .before .before .pre .2))
+    (λ c. let e : c .before .loop .i ≡ c .before .before .before .before .args .task .streams * c .before .before .before .before .args .task .width = omega arith in
     c .before .loop .inv .2 ∙ rw e))

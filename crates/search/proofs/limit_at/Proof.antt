@@ -13,20 +13,20 @@ use mir.Facts.{toZ-ofZ}
 use Rattle.model.specs.Metric.{Vector, labelBits, priorAt}
 use Rattle.block.proofs.Places.{all-priors-at, rows-count}
 use Rattle.metric.specs.Parts.{bitOf}
-use Rattle.search.specs.Program.{Taken, takenOf, reachOf}
+use Rattle.search.specs.Program.{Taken, takenIn, reachOf}
 use Rattle.search.specs.Limits.{vectorAt, upOf, limitAt}
 use Rattle.search.proofs.limit_at.Statement.{statement}
 use Rattle.search.proofs.limit_at.Tie as tie
 
-few : (c : tie.Start) → c .args .sizes .streams * c .args .sizes .width ≤ 24
+few : (c : tie.Start) → c .args .task .streams * c .args .task .width ≤ 24
 few c = omega (arith, mul-le-mul (c .pre .0 .vector .streams) (c .pre .0 .vector .bits))
 
 small : (c : tie.After-prior-at) → natAbs (c .prior-at .result) < 2 ^ 31
 small c =
-    let s = c .before .before .before in
+    let s = c .before .before .before .before in
     omega (
       arith,
-      ap natAbs (c .prior-at .ensures ∙ all-priors-at (s .args .sizes .streams) (s .args .sizes .width) (s .args .numbers .now) (s .args .i) (s .pre .1)),
+      ap natAbs (c .prior-at .ensures ∙ all-priors-at (s .args .task .streams) (s .args .task .width) (s .args .numbers .now) (s .args .i) (s .pre .1)),
       s .pre .0 .vector .priors (s .args .i) (s .pre .1),
     )
 
@@ -38,31 +38,32 @@ unfolding limitAt
 limit-by v t i n bit eb prior ep u eu far ef en r er = er ∙ rw (eu, ef, ep, eb, en)
 
 bit-at-requires : tie.Need-bit-at-requires
-bit-at-requires c κs = (c .before .pre .1, few (c .before))
+bit-at-requires c κs = (c .before .before .pre .1, few (c .before .before))
 
 reach-requires : tie.Need-reach-requires
 reach-requires c κs =
-    let s = c .before .before .before .before in
-    let f : SFits w64 (c .before .prior-at .result) = sfits-of (c .before .prior-at .ok) in
-    (omega (arith, s .pre .2, s .pre .0 .clips), simp toZ-ofZ (small (c .before)))
+    let p = c .before .before in
+    let s = p .before .before .before .before in
+    let f : SFits w64 (p .prior-at .result) = sfits-of (p .prior-at .ok) in
+    (omega (arith, s .pre .2, s .pre .0 .clips), simp toZ-ofZ (small p))
 
 opposite-requires : tie.Need-opposite-requires
-opposite-requires c κs = let s = c .before .before .before .before .before in omega (arith, s .pre .1, few s)
+opposite-requires c κs = let s = c .before .before .before .before .before .before .before in (omega (arith, s .pre .1, few s), s .pre .3)
 
 returns : tie.Need-returns
 returns c =
     let o = c .before in
     let r = o .before in
-    let p = r .before .before in
+    let p = r .before .before .before in
     let b = p .before in
-    let s = b .before .before .args in
-    let v = vectorAt (s .sizes .streams) (s .sizes .width) (s .sizes .clip) (s .numbers .now) in
+    let s = b .before .before .before .args in
+    let v = vectorAt (s .task .streams) (s .task .width) (s .task .clip) (s .numbers .now) in
     let f : SFits w64 (p .prior-at .result) = sfits-of (p .prior-at .ok) in
     let g : SFits w64 (r .reach .result) = sfits-of (r .reach .ok) in
-    limit-by v (takenOf (s .label) (s .best) (s .zeros .now) (s .ones .now)) (s .i) (s .sizes .streams * s .sizes .width) _
+    limit-by v (takenIn (s .best .label) (s .best .metric) (s .minima .now)) (s .i) (s .task .streams * s .task .width) _
     (b .bit-at .ensures) (p .prior-at .result) (p .prior-at .ensures) _ (o .opposite .ensures) (r .reach .result)
     (simp toZ-ofZ at (r .reach .ensures))
-    (ap (λ (m : ℕ). m * s .sizes .width) (sym (rows-count (s .sizes .streams) (s .sizes .width) (s .numbers .now)))) _
+    (ap (λ (m : ℕ). m * s .task .width) (sym (rows-count (s .task .streams) (s .task .width) (s .numbers .now)))) _
     (simp toZ-ofZ at (c .limit .ensures))
 
 pub limit-at-spec : {M : Type 1} → statement M

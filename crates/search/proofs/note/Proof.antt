@@ -1,28 +1,37 @@
 -- After i turns the minima are lowered at the first i bits.
 use mathlib.Core.Logic.{⊎-elim}
-use mathlib.Core.Path.{_≡_, sym, _∙_}
-use Prim.Native.Nat.{ℕ, _≤_, _<_, _-_}
+use mathlib.Core.Path.{_≡_, refl, sym, ap, _∙_}
+use mathlib.Core.Bool.{Bool, Bool·beq}
+use Prim.Native.Nat.{_≤_, _-_}
 use native.Mathlib.Omega.{arith}
-use Rattle.search.proofs.Steps.{Lowered, lowered-start, lowered-one, lowered-zero, lowered-done}
+use lib.ListN.{length}
+use Rattle.metric.specs.Parts.{filled}
+use Rattle.metric.proofs.Filled.{filled-length}
+use Rattle.search.specs.Program.{loweredAt}
+use Rattle.search.proofs.Steps.{lowered-hit, lowered-miss}
 use Rattle.search.proofs.note.Statement.{statement}
 use Rattle.search.proofs.note.Tie as tie
 
 abbrev Inv-loop : tie.InvT-loop
-Inv-loop n label d zeros₀ ones₀ i₀ zeros ones i = (i ≤ n) × Lowered n label d zeros₀ ones₀ i zeros ones
+Inv-loop n label d side least₀ i₀ least i = (i ≤ n) × (least ≡ filled (loweredAt n side label d least₀) i least₀)
 
 abbrev μ-loop : tie.MeasureT-loop
-μ-loop n label d zeros₀ ones₀ i₀ zeros ones i = n - i
+μ-loop n label d side least₀ i₀ least i = n - i
 
 loop-holds : tie.Need-loop-holds Inv-loop μ-loop
-loop-holds c = (omega arith, lowered-start _ _ _ _ _)
+unfolding filled
+loop-holds c = (omega arith, refl)
+
+length-kept : (c : tie.At-loop Inv-loop μ-loop) → length (c .loop .least) ≡ length (c .before .before .args .least .now)
+length-kept c = ap length (c .loop .inv .1) ∙ filled-length _ _ _
 
 loop-again : tie.Need-loop-again Inv-loop μ-loop
 loop-again c =
     let l = c .before .before .before in
-    let e = c .before .bit-at .ensures in
+    let same = ap (λ (b : Bool). Bool·beq b (c .before .before .before .before .before .args .side)) (sym (c .before .bit-at .ensures)) in
     ⊎-elim
-    (λ w. (omega arith, rw (w .3, w .4 ∙ w .2 .ensures) (lowered-one _ _ _ _ _ (l .loop .inv .1) (sym (w .0 .taken) ∙ e))))
-    (λ w. (omega arith, rw (w .3 ∙ w .2 .ensures, w .4) (lowered-zero _ _ _ _ _ (l .loop .inv .1) (sym (w .0 .left) ∙ e))))
+    (λ w. (omega arith, w .5 ∙ w .2 .ensures ∙ lowered-hit _ _ _ _ _ _ _ (l .loop .inv .1) (same ∙ w .0 .taken)))
+    (λ w. (omega arith, w .1 ∙ lowered-miss _ _ _ _ _ _ _ (l .loop .inv .1) (same ∙ w .0 .left)))
     (c .if1 .came)
 
 pub note-spec : {M : Type 1} → statement M
@@ -32,10 +41,10 @@ note-spec =
     Inv-loop
     μ-loop
     loop-holds
-    (λ c κs. omega arith)
-    (λ c κs. omega arith)
-    (λ c κs. omega arith)
+    (λ c κs. (c .loop-test .taken, c .before .before .before .pre .0))
+    (λ c κs. omega (arith, c .before .before .before .loop-test .taken, length-kept (c .before .before .before .before), c .before .before .before .before .before .before .pre .1))
     (λ c. omega arith)
     (λ c. omega arith)
     loop-again
-    (λ c. let l = c .before .loop in lowered-done _ _ _ _ _ (l .inv .1) (omega arith)))
+    (λ c. length-kept (c .before))
+    (λ c. let l = c .before .loop in let e : l .i ≡ c .before .before .before .args .n = omega (arith, l .inv .0, c .loop-test .left) in l .inv .1 ∙ rw e))

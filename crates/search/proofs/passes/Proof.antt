@@ -1,6 +1,6 @@
 -- What is left of the test is a test of the bits from i on.
 use mathlib.Core.Path.{_≡_, sym, _∙_}
-use Prim.Native.Nat.{ℕ, _≤_, _<_, _-_}
+use Prim.Native.Nat.{_≤_, _-_}
 use native.Mathlib.Omega.{arith}
 use Rattle.search.specs.Limits.{letsBy, passingBy}
 use Rattle.search.proofs.Steps.{anyFrom, any-hit, any-miss, any-done}
@@ -42,7 +42,7 @@ passes-spec =
     μ-loop
     returns
     loop-holds
-    (λ c κs. (c .loop-test .taken, c .before .before .before .pre))
+    (λ c κs. let s = c .before .before .before .before in (c .loop-test .taken, s .pre .0, s .pre .1))
     returns-2
     (λ c. omega arith)
     (λ c. omega arith)

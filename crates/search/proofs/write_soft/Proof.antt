@@ -8,22 +8,23 @@ use mir.Syntax.{w32, w64}
 use mir.Val.{SFits}
 use mir.Facts.{toZ-ofZ}
 use Rattle.metric.specs.Parts.{filled}
-use Rattle.search.specs.Program.{takenOf, valueOf}
-use Rattle.search.specs.Limits.{vectorAt}
+use Rattle.search.specs.Program.{takenIn, zerosOf, onesOf, valueOf}
+use Rattle.search.specs.Limits.{vectorFor}
+use Rattle.search.proofs.Minima.{zero-at, one-at}
 use Rattle.search.proofs.Values.{few, prior-small, write-more, soft-by}
 use Rattle.search.proofs.write_soft.Statement.{statement}
 use Rattle.search.proofs.write_soft.Tie as tie
 
 abbrev Inv-loop : tie.InvT-loop
-Inv-loop sizes numbers zeros ones soft₀ n i₀ soft i =
+Inv-loop task numbers minima soft₀ n i₀ soft i =
     (i ≤ n) × (soft
-    ≡ filled (valueOf (vectorAt (sizes .streams) (sizes .width) (sizes .clip) numbers) (takenOf 0 0 zeros ones)) i soft₀)
+    ≡ filled (valueOf (vectorFor task numbers) (takenIn 0 0 minima)) i soft₀)
 
 abbrev μ-loop : tie.MeasureT-loop
-μ-loop sizes numbers zeros ones soft₀ n i₀ soft i = n - i
+μ-loop task numbers minima soft₀ n i₀ soft i = n - i
 
 inside : (c : tie.In-loop Inv-loop μ-loop) → c .before .loop .i < 24
-inside c = omega (arith, c .loop-test .taken, few (c .before .before .before .pre .0 .vector))
+inside c = omega (arith, c .loop-test .taken, few (c .before .before .before .before .pre .0 .vector))
 
 loop-holds : tie.Need-loop-holds Inv-loop μ-loop
 unfolding filled
@@ -31,11 +32,11 @@ loop-holds c = (omega arith, refl)
 
 prior-low : (c : tie.After-prior-at Inv-loop μ-loop) → natAbs (c .prior-at .result) < 2 ^ 31
 prior-low c =
-    let s = c .before .before .before .before in let a = s .args in
+    let s = c .before .before .before .before .before in let a = s .args in
     omega (
       arith,
       ap natAbs (c .prior-at .ensures),
-      prior-small (a .sizes .streams) (a .sizes .width) (a .sizes .clip) (a .numbers .now) (c .before .before .loop .i)
+      prior-small (a .task .streams) (a .task .width) (a .task .clip) (a .numbers .now) (c .before .before .loop .i)
           (s .pre .0 .vector) (c .before .loop-test .taken),
     )
 
@@ -43,29 +44,37 @@ soft-value-requires : tie.Need-soft-value-requires Inv-loop μ-loop
 soft-value-requires c κs =
     let p = c .before .before in
     let l = p .before .before in
-    let s = l .before .before in
-    let f : SFits w64 (p .prior-at .result) = sfits-of (p .prior-at .ok) in
-    (s .pre .1 .ones-low (l .loop .i), s .pre .1 .zeros-low (l .loop .i), simp toZ-ofZ (prior-low p), s .pre .0 .clips)
+    let s = l .before .before .before in
+    let i = inside (p .before) in
+    let f : SFits w64 (p .prior-at .result) = sfits-of (p .prior-at .ok) in (
+      rw (one-at (s .args .minima .now) (l .loop .i) i) (s .pre .1 .ones-low (l .loop .i)),
+      rw (zero-at (s .args .minima .now) (l .loop .i) i) (s .pre .1 .zeros-low (l .loop .i)),
+      simp toZ-ofZ (prior-low p),
+      s .pre .0 .clips,
+    )
 
 loop-again : tie.Need-loop-again Inv-loop μ-loop
 loop-again c =
     let p = c .before .before .before in
     let l = p .before .before in
-    let a = l .before .before .args in
+    let a = l .before .before .before .args in
+    let i = inside (p .before) in
+    let m = a .minima .now in
     let f : SFits w64 (p .prior-at .result) = sfits-of (p .prior-at .ok) in
     let h : SFits w32 (c .soft-value .result) = sfits-of (c .soft-value .ok) in
-    let v = vectorAt (a .sizes .streams) (a .sizes .width) (a .sizes .clip) (a .numbers .now) in
+    let v = vectorFor (a .task) (a .numbers .now) in
     let e = toZ-ofZ h ∙ (simp toZ-ofZ at (c .soft-value .ensures)) in (
       omega (arith, p .before .loop-test .taken),
-      write-more v (a .zeros .now) (a .ones .now) (l .loop .i) (a .soft .now) (l .loop .soft) _ (l .loop .inv .1)
-          (soft-by v (a .zeros .now) (a .ones .now) (l .loop .i) (p .prior-at .result) _ (p .prior-at .ensures) e),
+      write-more v (zerosOf m) (onesOf m) (l .loop .i) (a .soft .now) (l .loop .soft) _ (l .loop .inv .1)
+          (soft-by v (zerosOf m) (onesOf m) (l .loop .i) (p .prior-at .result) _ (p .prior-at .ensures)
+          (rw (one-at m (l .loop .i) i, zero-at m (l .loop .i) i) at e)),
     )
 
 returns : tie.Need-returns Inv-loop μ-loop
 returns c =
     let l = c .before in
-    let a = l .before .before .args in
-    let e : l .loop .i ≡ a .sizes .streams * a .sizes .width = omega (arith, l .loop .inv .0, c .loop-test .left) in
+    let a = l .before .before .before .args in
+    let e : l .loop .i ≡ a .task .streams * a .task .width = omega (arith, l .loop .inv .0, c .loop-test .left) in
     l .loop .inv .1 ∙ rw e
 
 pub write-soft-spec : {M : Type 1} → statement M
@@ -74,16 +83,17 @@ write-soft-spec =
     (tie.spec
     Inv-loop
     μ-loop
-    (λ c. omega (arith, few (c .before .pre .0 .vector)))
+    (λ c. omega (arith, few (c .before .before .pre .0 .vector)))
     loop-holds
-    (λ c κs. (c .before .before .before .pre .0 .vector, c .loop-test .taken))
+    (λ c κs. (c .before .before .before .before .pre .0 .vector, c .loop-test .taken))
     (λ c. omega (arith, inside (c .before)))
-    (λ c. inside (c .before))
+    (λ c. omega (arith, inside (c .before)))
+    (λ c. omega (arith, inside (c .before .before), c .before .before .before .before .before .before .pre .2))
     (λ c. omega (arith, inside (c .before .before)))
-    (λ c. inside (c .before .before))
+    (λ c. omega (arith, inside (c .before .before .before), c .before .before .before .before .before .before .before .pre .2))
     soft-value-requires
     (λ c. omega (arith, inside (c .before .before .before .before)))
-    (λ c. inside (c .before .before .before .before))
+    (λ c. omega (arith, inside (c .before .before .before .before)))
     (λ c. omega (arith, inside (c .before .before .before .before)))
     (λ c. omega (arith, c .before .before .before .before .loop-test .taken))
     loop-again

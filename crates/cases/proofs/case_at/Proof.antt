@@ -4,9 +4,9 @@ use borrow.Author.Tests.{lt-ltb, le-ltb}
 use Prim.Native.Nat.{_+_, _<_}
 use native.Mathlib.Omega.{arith}
 use lib.ListN.{getD}
-use Rattle.reader_cases.specs.Cases.{lengthAt}
-use Rattle.reader_cases.proofs.case_at.Statement.{statement}
-use Rattle.reader_cases.proofs.case_at.Tie as tie
+use Rattle.cases.specs.Cases.{lengthAt}
+use Rattle.cases.proofs.case_at.Statement.{statement}
+use Rattle.cases.proofs.case_at.Tie as tie
 
 -- the high byte, and the length with both
 high : (c : tie.After-shared-slice-known2)

@@ -4,8 +4,8 @@ use mathlib.Core.Bool.{cond}
 use mathlib.Core.List.{List}
 use lib.Dec.{ltb}
 use lib.ListN.{length, getD}
-use Rattle.reader_cases.specs.declared.Case.{Case}
-use Rattle.reader_cases.specs.declared.Case.the-variants.{Bytes, CutOff}
+use Rattle.cases.specs.declared.Case.{Case}
+use Rattle.cases.specs.declared.Case.the-variants.{Bytes, CutOff}
 
 -- The length at a place
 abbrev pub lengthAt : List ℕ → ℕ → ℕ

@@ -1,0 +1,120 @@
+-- What the lent list holds once a whole record is read into it: the record's numbers in front, and behind them what was there before. Its
+-- first numbers say how far the record's go, so its block is the record's.
+use Prim.Native.Nat.{ℕ, _+_, _*_, _≤_, _<_}
+use mathlib.Core.Path.{_≡_, sym, _∙_, ap, subst}
+use mathlib.Core.Bool.{Bool, true, false, cond}
+use mathlib.Core.List.{List, _++_, map}
+use native.Mathlib.Omega.{arith}
+use native.Mathlib.Nat.{suc-mul, mul-le-mul, le-refl}
+use lib.Dec.{ltb}
+use lib.ListN.{length, drop, length-drop, List·getD-append}
+use lib.Seq.{sets-eq, take-append-le, drop-append-le}
+use lib.IntN.{ℤ, pos, natAbs}
+use Rattle.model.specs.Soft.{upFrom}
+use Rattle.model.specs.Block.{InRange}
+use Rattle.model.proofs.Bounds.{width-small}
+use Rattle.model.proofs.Lists.{map-upFrom}
+use Rattle.block.specs.Reading.{vectorSize, countAt, readRecord, atEnd, readWhole, Got, got, into}
+use Rattle.block.specs.Contents.{rowsOf, vectorNumbers, vectorRows, blockOf}
+use Rattle.block.specs.declared.Read.{Read}
+use Rattle.block.specs.declared.Read.the-variants.{Ended, Refused}
+use Rattle.block.specs.declared.Refusal.the-variants.{Trailing}
+use Rattle.block.proofs.Parts.{into-length, all-fit}
+use Rattle.block.proofs.Places.{vectors-count}
+use Rattle.block.proofs.Vectors.{Placed}
+use Rattle.block.proofs.Accepted.{accepted-count, accepted-placed, accepted-in-range}
+
+-- Each vector of a record is whole, and its numbers are in range place by place
+abbrev pub AllPlaced : List ℤ → Type 0
+AllPlaced numbers = (k : ℕ) → k < countAt 2 numbers → Placed (countAt 0 numbers) (countAt 1 numbers) (vectorNumbers numbers k)
+
+-- A record's numbers with others behind them
+module _ (numbers rest : List ℤ)
+    (many : length numbers ≡ 5 + countAt 2 numbers * vectorSize (countAt 0 numbers) (countAt 1 numbers)) where
+  -- The header is the record's
+  header-same : (i : ℕ) → i < 5 → countAt i (numbers ++ rest) ≡ countAt i numbers
+  header-same i h = ap natAbs (List·getD-append numbers rest (pos 0) i (omega arith))
+
+  -- So are the vectors
+  vector-same : (k : ℕ) → k < countAt 2 numbers → vectorNumbers (numbers ++ rest) k ≡ vectorNumbers numbers k
+  vector-same k h =
+      let size = vectorSize (countAt 0 numbers) (countAt 1 numbers) in
+      let room : 5 + k * size + size ≤ length numbers = omega (arith, suc-mul k size, mul-le-mul h (le-refl size)) in
+      rw (header-same 0 (omega arith), header-same 1 (omega arith), drop-append-le (5 + k * size) numbers rest (omega arith))
+      (take-append-le size (drop (5 + k * size) numbers) rest (omega (arith, length-drop (5 + k * size) numbers)))
+
+  rows-same : (k : ℕ) → k < countAt 2 numbers → vectorRows (numbers ++ rest) k ≡ vectorRows numbers k
+  rows-same k h = λ j. rowsOf (header-same 0 (omega arith) j) (header-same 1 (omega arith) j) (vector-same k h j)
+
+  -- and the block
+  block-same : blockOf (numbers ++ rest) ≡ blockOf numbers
+  unfolding blockOf
+  block-same =
+      let vectors =
+      ap (λ (n : ℕ). map (vectorRows (numbers ++ rest)) (upFrom 0 n)) (header-same 2 (omega arith))
+      ∙ map-upFrom (vectorRows (numbers ++ rest)) (vectorRows numbers) 0 (countAt 2 numbers) (λ k h. rows-same k (omega arith)) in
+      λ j. record {
+        streams = header-same 0 (omega arith) j;
+        width = header-same 1 (omega arith) j;
+        clip = header-same 3 (omega arith) j;
+        share = header-same 4 (omega arith) j;
+        vectors = vectors j;
+      }
+
+  placed-same : AllPlaced numbers → AllPlaced (numbers ++ rest)
+  placed-same p k h =
+      let l = rw (header-same 2 (omega arith)) at h in
+      rw (vector-same k l, header-same 0 (omega arith), header-same 1 (omega arith)) (p k l)
+
+-- A record that ended whole, ended
+ended : (n : ℕ) (r : Read) (at : ℕ) → Ended at ≡ atEnd n r → r ≡ Ended at
+ended n (Ended next) at e = go (ltb next n) e
+  where
+    go : (b : Bool) → Ended at ≡ cond b (Refused Trailing) (Ended next) → Ended next ≡ Ended at
+    go true f = let z : _≡_ {A = ℕ} 0 1 = cc in absurd (omega arith)
+    go false f = sym f
+ended n (Refused r) at e = let z : _≡_ {A = ℕ} 0 1 = cc in absurd (omega arith)
+
+-- All vectors of a block in range are within the list
+pub vectors-fit : (list : List ℤ) → InRange (blockOf list) → 5 + countAt 2 list * vectorSize (countAt 0 list) (countAt 1 list) ≤ 3077
+unfolding blockOf
+vectors-fit list h =
+    all-fit (countAt 0 list) (countAt 1 list) (countAt 2 list) (h .streams) (width-small (countAt 1 list) (h .width))
+    (subst (λ (n : ℕ). n ≤ 64) (vectors-count list) (h .vectors))
+
+-- A list of which a record's reading, to its end, made another
+module _ (bytes : List ℕ) (at : ℕ) (list list′ : List ℤ) (room : length list ≡ 3077)
+    (e : got (Ended at) list′ ≡ into 0 (readWhole bytes) list) where
+  lent-ended : readRecord bytes .read ≡ Ended at
+  unfolding readWhole
+  lent-ended = ended (length bytes) (readRecord bytes .read) at (ap (λ (g : Got). g .read) e)
+
+  -- The list is as long as before
+  pub lent-room : length list′ ≡ 3077
+  lent-room = into-length 0 (readWhole bytes) (Ended at) list list′ e ∙ room
+
+  lent-is : list′ ≡ readRecord bytes .numbers ++ drop (length (readRecord bytes .numbers)) list
+  unfolding readWhole
+  lent-is =
+      let numbers = readRecord bytes .numbers in
+      let fit = vectors-fit numbers (accepted-in-range bytes at lent-ended) in
+      let all : 0 + length numbers ≡ length numbers = omega arith in
+      ap (λ (g : Got). g .list) e ∙ sets-eq numbers list 0 (omega (arith, accepted-count bytes at lent-ended))
+      ∙ ap (λ (n : ℕ). numbers ++ drop n list) all
+
+  -- Its block is the record's
+  pub lent-block : blockOf list′ ≡ blockOf (readWhole bytes .numbers)
+  unfolding readWhole
+  lent-block = ap blockOf lent-is ∙ block-same _ _ (accepted-count bytes at lent-ended)
+
+  -- and in range
+  pub lent-in-range : InRange (blockOf list′)
+  unfolding readWhole
+  lent-in-range = subst InRange (sym lent-block) (accepted-in-range bytes at lent-ended)
+
+  -- Its vectors are whole, and their numbers in range
+  pub lent-placed : AllPlaced list′
+  lent-placed =
+      let numbers = readRecord bytes .numbers in
+      subst AllPlaced (sym lent-is)
+      (placed-same numbers (drop (length numbers) list) (accepted-count bytes at lent-ended) (accepted-placed bytes at lent-ended))

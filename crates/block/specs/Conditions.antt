@@ -1,0 +1,83 @@
+-- Demand 1, from document 01, "Where a record is turned back": the table's conditions, row by row.
+use Prim.Native.Nat.{ℕ, _<_}
+use mathlib.Core.Path.{_≡_}
+use mathlib.Core.Bool.{true, false, cond}
+use mathlib.Core.List.{List, [], _++_}
+use lib.Dec.{ltb}
+use lib.ListN.{length, getD, take}
+use lib.IntN.{ℤ, pos}
+use Rattle.wire.specs.Reading.{numberAt}
+use Rattle.wire.specs.declared.Number.the-variants.{Value, Short, Malformed as NoNumber}
+use Rattle.block.specs.Table.{allowed}
+use Rattle.block.specs.Reading.{wholeOf, numbersAt, kindsOf, runsOf, countAt, opening, startsWith}
+use Rattle.block.specs.Contents.{vectorKinds}
+use Rattle.block.specs.declared.Kind.{Kind}
+use Rattle.block.specs.declared.Kind.the-variants.{StreamCount, SymbolWidth, VectorCount, ClipLevel, NodeShare, DiagonalEntry, RightPart, ReceivedPart, BitPrior}
+use Rattle.block.specs.declared.Refusal.{Refusal}
+use Rattle.block.specs.declared.Refusal.the-variants.{Opening, Ends, Malformed, Streams, Width, Vectors, Clip, Share, Diagonal, Entry, Received, Prior, Trailing, Buffer}
+use Rattle.block.specs.declared.Read.the-variants.{Ended}
+use Rattle.block.specs.declared.Part.the-variants.{First, Sizes}
+
+-- The kinds of the numbers that a record calls for, as far as its first numbers tell: M; once it is known, Q, N, C and D; then N vectors
+unfoldable pub calledFor : List ℤ → List Kind
+calledFor numbers =
+    kindsOf (runsOf First)
+    ++ cond (ltb 0 (length numbers))
+    (kindsOf (runsOf (Sizes (getD numbers 0 (pos 0))))
+    ++ cond (ltb 4 (length numbers)) (vectorKinds (countAt 2 numbers) (countAt 0 numbers) (countAt 1 numbers)) [])
+    []
+
+-- A record's first checks are passed: its opening, and each of its first numbers, "read, then ranged, before the next", up to a place
+pub record Passed (bytes : List ℕ) (numbers : List ℤ) (at : ℕ) : Type 0 where
+  pub opens : startsWith opening bytes ≡ true
+  pub each : numbersAt (take (length numbers) (calledFor numbers)) bytes 4 ≡ record { numbers = numbers; read = Ended at }
+
+-- and a number of some kind comes next
+pub record Next (bytes : List ℕ) (k : Kind) (at : ℕ) : Type 0 where
+  pub numbers : List ℤ
+  pub passed : Passed bytes numbers at
+  pub more : length numbers < length (calledFor numbers)
+  pub kind : getD (calledFor numbers) (length numbers) StreamCount ≡ k
+
+-- and it is out of its range
+pub record OutOfRange (bytes : List ℕ) (k : Kind) : Type 0 where
+  pub at : ℕ
+  pub next : Next bytes k at
+  pub n : ℕ
+  pub after : ℕ
+  pub value : numberAt bytes at ≡ Value n after
+  pub outside : allowed k (wholeOf k n) ≡ false
+
+-- or all numbers are passed
+pub record Whole (bytes : List ℕ) (at : ℕ) : Type 0 where
+  pub numbers : List ℤ
+  pub passed : Passed bytes numbers at
+  pub all : length numbers ≡ length (calledFor numbers)
+
+-- The table's conditions but the reply buffer's, the checks before each one being passed: "The first that fails decides"
+abbrev pub TurnedBack : List ℕ → Refusal → Type 0
+-- "first four bytes missing or different"
+TurnedBack bytes Opening = startsWith opening bytes ≡ false
+-- "record ends before its last group"
+TurnedBack bytes Ends = (k : Kind) × (at : ℕ) × Next bytes k at × (numberAt bytes at ≡ Short)
+-- "four groups all with the high bit, or a last group of 0 after another"
+TurnedBack bytes Malformed = (k : Kind) × (at : ℕ) × Next bytes k at × (numberAt bytes at ≡ NoNumber)
+-- "not 1 to 4"
+TurnedBack bytes Streams = OutOfRange bytes StreamCount
+-- "not 1, 2, 4, 6"
+TurnedBack bytes Width = OutOfRange bytes SymbolWidth
+-- "not 1 to 64"
+TurnedBack bytes Vectors = OutOfRange bytes VectorCount
+-- "above range"
+TurnedBack bytes Clip = OutOfRange bytes ClipLevel
+-- "outside range", which begins at M
+TurnedBack bytes Share = (m : ℤ) × OutOfRange bytes (NodeShare m)
+-- "outside range"
+TurnedBack bytes Diagonal = OutOfRange bytes DiagonalEntry
+TurnedBack bytes Entry = OutOfRange bytes RightPart
+TurnedBack bytes Received = OutOfRange bytes ReceivedPart
+TurnedBack bytes Prior = OutOfRange bytes BitPrior
+-- "bytes follow the last prior"
+TurnedBack bytes Trailing = (at : ℕ) × Whole bytes at × (at < length bytes)
+-- the reply buffer is no matter of the record's
+TurnedBack bytes Buffer = ⊥

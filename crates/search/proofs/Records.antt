@@ -1,0 +1,90 @@
+-- Once a record is read, the lent list holds a block in range, each of whose vectors a search may be asked for.
+use Prim.Native.Nat.{ℕ, _+_, _-_, _*_, _≤_, _<_}
+use mathlib.Core.Path.{_≡_, sym, _∙_}
+use mathlib.Core.Bool.{Bool}
+use mathlib.Core.List.{List}
+use native.Mathlib.Omega.{arith}
+use native.Mathlib.Nat.{suc-mul, mul-le-mul, le-refl}
+use lib.ListN.{length, take, drop}
+use lib.IntN.{ℤ}
+use Rattle.model.specs.Block.{InRange, mostStreams}
+use Rattle.model.proofs.Bounds.{width-small, width-positive}
+use Rattle.block.specs.Reading.{vectorSize, countAt, readWhole, got, into}
+use Rattle.block.specs.Contents.{vectorNumbers, blockOf}
+use Rattle.block.specs.declared.Read.the-variants.{Ended}
+use Rattle.block.proofs.Lent.{AllPlaced, vectors-fit, lent-room, lent-in-range, lent-placed}
+use Rattle.search.specs.Limits.{vectorAt, SearchAsked}
+use Rattle.search.specs.Values.{Answered}
+use Rattle.search.specs.Holds.{Holds}
+
+-- Vector k of a list whose block is in range, and whose vectors' numbers are, place by place
+vector-asked : (list : List ℤ) → InRange (blockOf list) → AllPlaced list → (k : ℕ) → k < countAt 2 list
+    → SearchAsked (countAt 0 list) (countAt 1 list) (countAt 3 list) (vectorNumbers list k)
+unfolding blockOf
+vector-asked list r p k h =
+    let placed = p k h in
+    record {
+      stream = r .stream;
+      vector = record {
+        streams = r .streams;
+        bit = width-positive (countAt 1 list) (r .width);
+        bits = width-small (countAt 1 list) (r .width);
+        room = omega (arith, placed .many);
+        entries = placed .entries;
+        plain = λ i l. placed .diagonal i l .is ∙ sym (rw (placed .diagonal i l .is));
+        positive = λ i l. rw (placed .diagonal i l .is) (placed .diagonal i l .low);
+        received = placed .received;
+        priors = placed .priors;
+      };
+      clips = r .clip;
+    }
+
+-- A list of which a record's reading, to its end, made another
+pub lent-holds : (bytes : List ℕ) (at : ℕ) (list list′ : List ℤ) → length list ≡ 3077
+    → got (Ended at) list′ ≡ into 0 (readWhole bytes) list → Holds list′
+lent-holds bytes at list list′ room e =
+    let ranged = lent-in-range bytes at list list′ room e in
+    record {
+      room = lent-room bytes at list list′ room e;
+      ranged = ranged;
+      each = vector-asked list′ ranged (lent-placed bytes at list list′ room e);
+    }
+
+-- M and Q of such a list, and what is computed of them
+pub record Sums (m q : ℕ) : Type 0 where
+  pub streams : m ≤ mostStreams
+  pub square : m * m ≤ 16
+  pub bits : m * q ≤ 24
+
+module _ (list : List ℤ) (h : Holds list) (m q : ℕ) (em : m ≡ countAt 0 list) (eq : q ≡ countAt 1 list) where
+  pub sums : Sums m q
+  unfolding blockOf
+  sums =
+      let r = h .ranged in
+      let streams : m ≤ mostStreams = omega (arith, em, r .streams) in
+      let bits : q ≤ 6 = omega (arith, eq, width-small (countAt 1 list) (r .width)) in
+      record { streams = streams; square = mul-le-mul streams streams; bits = mul-le-mul streams bits }
+
+  -- Vector k ends within the list, and a search may be asked for the part that it is
+  module _ (k : ℕ) (l : k < countAt 2 list) where
+    pub vector-end : 5 + k * vectorSize m q + vectorSize m q ≤ 3077
+    vector-end =
+        let size = vectorSize (countAt 0 list) (countAt 1 list) in
+        rw (em, eq) (omega (arith, vectors-fit list (h .ranged), suc-mul k size, mul-le-mul l (le-refl size)))
+
+    vector-part : let start = 5 + k * vectorSize m q in take (start + vectorSize m q - start) (drop start list) ≡ vectorNumbers list k
+    vector-part =
+        let start = 5 + k * vectorSize m q in
+        let e : start + vectorSize m q - start ≡ vectorSize m q = omega arith in
+        rw e (rw (em, eq))
+
+    pub part-asked : (c : ℕ) → c ≡ countAt 3 list
+        → let start = 5 + k * vectorSize m q in SearchAsked m q c (take (start + vectorSize m q - start) (drop start list))
+    part-asked c ec = rw (vector-part, em, eq, ec) (h .each k l)
+
+    -- What it answers under an allowance is the answer for vector k
+    pub part-answered : (c : ℕ) → c ≡ countAt 3 list → {d a : ℕ} → d ≡ a → {b : Bool} {n label : ℕ} {before after : List ℤ}
+        → let start = 5 + k * vectorSize m q in
+        Answered (vectorAt m q c (take (start + vectorSize m q - start) (drop start list))) d b n label before after
+        → Answered (vectorAt (countAt 0 list) (countAt 1 list) (countAt 3 list) (vectorNumbers list k)) a b n label before after
+    part-answered c ec ed answered = rw (vector-part, em, eq, ec, ed) at answered
