@@ -29,7 +29,7 @@ pub fn amplitude(bits: usize, label: usize) -> i64
 }
 
 // The upper bits of a symbol's label, which give the real amplitude.
-pub fn real_label(q: usize, symbol: usize) -> usize
+fn real_label(q: usize, symbol: usize) -> usize
     requires { ⌜ q ≤ 6 ⌝ }
     ensures { λ r. ⌜ r ≡ symbol / 2 ^ (q / 2) ⌝ }
 {
@@ -37,7 +37,7 @@ pub fn real_label(q: usize, symbol: usize) -> usize
 }
 
 // The lower bits, which give the imaginary one.
-pub fn imaginary_label(q: usize, symbol: usize) -> usize
+fn imaginary_label(q: usize, symbol: usize) -> usize
     requires { ⌜ q ≤ 6 ⌝ }
     ensures { λ r. ⌜ r ≡ symbol % 2 ^ (q / 2) ⌝ }
 {

@@ -1,0 +1,145 @@
+-- The user's demands, of every record and every buffer: a call refuses exactly under the table's conditions, and a reply meets demands 2
+-- and 3.
+use Prim.Native.Nat.{ℕ, zero, suc, _+_, _<_}
+use mathlib.Core.Path.{_≡_, refl, sym, _∙_, ap}
+use mathlib.Core.Bool.{Bool, true, false, cond}
+use mathlib.Core.Logic.{_↔_, _⊎_, inl, inr}
+use mathlib.Core.List.{List, [], _∷_}
+use native.Mathlib.Omega.{arith}
+use borrow.Author.Tests.{ltb-true}
+use lib.Dec.{ltb}
+use lib.ListN.{length, getD}
+use lib.IntN.{ℤ}
+use Rattle.model.specs.Metric.{Row}
+use Rattle.model.specs.Block.{Block, vectorOf, Answer, answers}
+use Rattle.model.specs.Demand.{Demand2, ResultsFrom}
+use Rattle.model.proofs.Demand.{demand3 as answers-meet}
+use Rattle.model.proofs.Bounds.{shaped}
+use Rattle.block.specs.Reading.{readRecord, readWhole}
+use Rattle.block.specs.Contents.{blockOf}
+use Rattle.block.specs.Conditions.{Whole}
+use Rattle.block.specs.declared.Refusal.{Refusal}
+use Rattle.block.specs.declared.Refusal.the-variants.{Buffer}
+use Rattle.block.specs.declared.Read.{Read}
+use Rattle.block.specs.declared.Read.the-variants.{Ended, Refused}
+use Rattle.block.proofs.Conditions.{turned-back, whole-read, read-whole, whole-in-range}
+use Rattle.detector.specs.Reply.{replyOf, replyRoom}
+use Rattle.detector.specs.Outcome.{Outcome, refused, replied, byRoom, byRead, outcome}
+use Rattle.detector.specs.Demand.{Condition, Accepted, answerAt, EachComplete}
+use Rattle.detector.proofs.Outcomes.{room-short}
+
+-- A refusal is no reply
+not-both : {r : Refusal} {reply : List ℕ} {o : Outcome} → o ≡ refused r → o ≡ replied reply → ⊥
+not-both e f = let z : _≡_ {A = ℕ} 0 1 = cc in omega arith
+
+module _ (room : ℕ) (b : Block) where
+  -- A block's refusal is the buffer's, which is too short
+  room-refused : (r : Refusal) → byRoom room b ≡ refused r → (r ≡ Buffer) × (room < replyRoom b)
+  unfolding byRoom
+  room-refused r e = go (ltb room (replyRoom b)) refl e
+    where
+      go : (t : Bool) → ltb room (replyRoom b) ≡ t → cond t (refused Buffer) (replied (replyOf b)) ≡ refused r
+          → (r ≡ Buffer) × (room < replyRoom b)
+      go true f g = (cc, ltb-true room (replyRoom b) f)
+      go false f g = absurd (not-both g refl)
+
+  -- A block's reply is its own
+  room-replied : (reply : List ℕ) → byRoom room b ≡ replied reply → reply ≡ replyOf b
+  unfolding byRoom
+  room-replied reply e = go (ltb room (replyRoom b)) e
+    where
+      go : (t : Bool) → cond t (refused Buffer) (replied (replyOf b)) ≡ replied reply → reply ≡ replyOf b
+      go true f = absurd (not-both refl f)
+      go false f = cc
+
+module _ (bytes : List ℕ) (room : ℕ) where
+  -- A record that is turned back is refused
+  turned-outcome : (r : Refusal) → readWhole bytes .read ≡ Refused r → outcome bytes room ≡ refused r
+  unfolding outcome
+  turned-outcome r e = ap (byRead room (readWhole bytes .numbers)) e
+
+  -- Of a whole record the buffer decides
+  whole-outcome : (w : Whole bytes (length bytes)) → outcome bytes room ≡ byRoom room (blockOf (w .numbers))
+  unfolding outcome readWhole
+  whole-outcome w =
+      let is = read-whole bytes w in
+      ap (byRead room (readRecord bytes .numbers)) (is .0) ∙ ap (λ (numbers : List ℤ). byRoom room (blockOf numbers)) (is .1)
+
+  -- Every record is one or the other
+  one-of-two : ((r : Refusal) × (readWhole bytes .read ≡ Refused r)) ⊎ Whole bytes (length bytes)
+  one-of-two = go (readWhole bytes .read) refl
+    where
+      go : (r : Read) → readWhole bytes .read ≡ r → ((r : Refusal) × (readWhole bytes .read ≡ Refused r)) ⊎ Whole bytes (length bytes)
+      go (Ended at) e = inr (whole-read bytes at e .0)
+      go (Refused r) e = inl (r, e)
+
+-- Demand 1: a call refuses, by a refusal's number, exactly where the table's condition for it holds
+pub demand1 : (bytes : List ℕ) (room : ℕ) (r : Refusal) → (outcome bytes room ≡ refused r) ↔ Condition bytes room r
+demand1 bytes room r = (λ e. holds e (one-of-two bytes room), refuses)
+  where
+    holds : outcome bytes room ≡ refused r → ((s : Refusal) × (readWhole bytes .read ≡ Refused s)) ⊎ Whole bytes (length bytes)
+        → Condition bytes room r
+    holds e (inl t) =
+        let f = turned-outcome bytes room (t .0) (t .1) in
+        let same : t .0 ≡ r = cc in
+        inl (turned-back bytes r .0 (t .1 ∙ ap Refused same))
+    holds e (inr w) =
+        let t = room-refused room (blockOf (w .numbers)) r (sym (whole-outcome bytes room w) ∙ e) in
+        inr (t .0, record { whole = w; short = t .1 })
+
+    refuses : Condition bytes room r → outcome bytes room ≡ refused r
+    refuses (inl t) = turned-outcome bytes room r (turned-back bytes r .1 t)
+    refuses (inr t) =
+        let w = t .1 .whole in
+        whole-outcome bytes room w ∙ room-short room (blockOf (w .numbers)) (t .1 .short) ∙ ap refused (sym (t .0))
+
+-- It replies exactly where no condition holds
+pub demand1-accepted : (bytes : List ℕ) (room : ℕ)
+    → ((reply : List ℕ) × (outcome bytes room ≡ replied reply)) ↔ ((r : Refusal) → Condition bytes room r → ⊥)
+demand1-accepted bytes room = (λ t r c. not-both (demand1 bytes room r .1 c) (t .1), λ none. go (outcome bytes room) refl none)
+  where
+    go : (o : Outcome) → outcome bytes room ≡ o → ((r : Refusal) → Condition bytes room r → ⊥)
+        → (reply : List ℕ) × (outcome bytes room ≡ replied reply)
+    go (refused r) e none = absurd (none r (demand1 bytes room r .0 e))
+    go (replied reply) e none = (reply, e)
+
+-- Demand 3: a reply is that of a whole record's block in range, whose answers meet the model's demand 3
+pub demand3 : (bytes : List ℕ) (room : ℕ) (reply : List ℕ) → outcome bytes room ≡ replied reply → Accepted bytes reply
+demand3 bytes room reply e = go (one-of-two bytes room)
+  where
+    go : ((r : Refusal) × (readWhole bytes .read ≡ Refused r)) ⊎ Whole bytes (length bytes) → Accepted bytes reply
+    go (inl t) = absurd (not-both (turned-outcome bytes room (t .0) (t .1)) e)
+    go (inr w) =
+        let b = blockOf (w .numbers) in
+        let ranged = whole-in-range bytes (length bytes) w in
+        record {
+          whole = w;
+          ranged = ranged;
+          reply-is = room-replied room b reply (sym (whole-outcome bytes room w) ∙ e);
+          demand3 = answers-meet b (shaped b ranged);
+        }
+
+-- As many answers as vectors
+results-many : (b : Block) (spent : ℕ) (vs : List (List Row)) (found : List Answer) → ResultsFrom b spent vs found
+    → length found ≡ length vs
+results-many b spent [] [] r = refl
+results-many b spent [] (a ∷ rest) r = absurd r
+results-many b spent (rows ∷ later) [] r = absurd r
+results-many b spent (rows ∷ later) (a ∷ rest) r = ap suc (results-many b (spent + a .count) later rest (r .1))
+
+-- Demand 2 of vector k, if its answer is complete
+results-exact : (b : Block) (spent : ℕ) (vs : List (List Row)) (found : List Answer) → ResultsFrom b spent vs found → (k : ℕ)
+    → k < length vs → answerAt found k .stopped ≡ false → Demand2 (vectorOf b (getD vs k [])) (answerAt found k .result)
+results-exact b spent [] found r k h e = absurd (omega arith)
+results-exact b spent (rows ∷ later) [] r k h e = absurd r
+results-exact b spent (rows ∷ later) (a ∷ rest) r zero h e = r .0 .1 .exact e
+results-exact b spent (rows ∷ later) (a ∷ rest) r (suc k) h e =
+    results-exact b (spent + a .count) later rest (r .1) k (omega arith) e
+
+-- Demand 2, of each vector of an accepted record that is marked complete
+pub demand2 : (bytes : List ℕ) (reply : List ℕ) (a : Accepted bytes reply)
+    → let b = blockOf (a .whole .numbers) in EachComplete b (answers b)
+demand2 bytes reply a =
+    let b = blockOf (a .whole .numbers) in
+    let each = a .demand3 .each in
+    record { many = results-many b 0 (b .vectors) (answers b) each; exact = results-exact b 0 (b .vectors) (answers b) each }

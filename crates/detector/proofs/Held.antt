@@ -1,0 +1,225 @@
+-- What the lent list and its header give: sizes that fit, and the answer that is written of a vector.
+use Prim.Native.Nat.{ℕ, zero, suc, _+_, _-_, _*_, _^_, _≤_, _<_}
+use mathlib.Core.Path.{_≡_, sym, _∙_, ap}
+use mathlib.Core.Bool.{Bool}
+use mathlib.Core.List.{List, [], _∷_, _++_, map, Memᴰ·map}
+use native.Mathlib.Nat.{mul-le-mul, mul-le-mul-left, mul-assoc, suc-mul}
+use native.Mathlib.Numerals.{add-one}
+use native.Mathlib.Omega.{arith}
+use lib.IntN.{ℤ, pos}
+use lib.ListN.{length, getD, take, drop, length-append, length-drop, List·getD-append, drop-of-length-le}
+use lib.Seq.{drop-cons, take-at}
+use Rattle.model.specs.Metric.{Vector, labelBits}
+use Rattle.model.specs.Block.{vectorOf, Answer, answer, answersFrom, Every, VectorInRange}
+use Rattle.model.proofs.Lists.{in-upFrom}
+use Rattle.model.proofs.Demand.{count-is}
+use Rattle.model.proofs.Bounds.{of-every, width-small, total-small}
+use Rattle.wire.specs.Folding.{folded}
+use Rattle.block.specs.Reading.{countAt}
+use Rattle.block.specs.Contents.{vectorRows, blockOf}
+use Rattle.block.proofs.Places.{vectors-count, vector-at}
+use Rattle.search.specs.Program.{answerOf}
+use Rattle.search.specs.Values.{Answered}
+use Rattle.detector.specs.Reply.{markOf, answerNumbers, answersNumbers, written, replyRoom}
+use Rattle.search.specs.Holds.{Holds}
+use Rattle.detector.specs.Steps.{Wrote, Heads, SoftAsked, FoundAsked, SearchOneAsked, allowanceAt, answerAt}
+use Rattle.detector.specs.declared.Header.{Header}
+use Rattle.detector.proofs.Replies.{Short, soft-count, bits-are, count-short, label-short, soft-short, answer-room}
+use Rattle.detector.proofs.Replies.{written-append, written-first}
+use Rattle.detector.proofs.Steps.{wrote-both}
+
+-- What every member of a mapped list has, by its place
+every-at : (f : ℤ → ℕ) (zs : List ℤ) (i : ℕ) → Every Short (map f zs) → i < length zs → Short (f (getD zs i (pos 0)))
+every-at f [] i h k = absurd (omega arith)
+every-at f (z ∷ zs) zero h k = h .0
+every-at f (z ∷ zs) (suc i) h k = every-at f zs i (h .1) (omega arith)
+
+module _ {h : Header} {list : List ℤ} (headed : Heads h list) where
+  -- The header is the block's
+  pub streams-are : h .streams ≡ blockOf list .streams
+  unfolding blockOf
+  streams-are = headed .streams-is
+
+  pub width-are : h .width ≡ blockOf list .width
+  unfolding blockOf
+  width-are = headed .width-is
+
+  pub vectors-are : h .vectors ≡ length (blockOf list .vectors)
+  vectors-are = headed .vectors-is ∙ sym (vectors-count list)
+
+  share-are : h .share ≡ blockOf list .share
+  unfolding blockOf
+  share-are = headed .share-is
+
+  total-is : h .vectors * h .share ≡ length (blockOf list .vectors) * blockOf list .share
+  total-is = rw (vectors-are, share-are)
+
+  -- The room that a reply asks for
+  pub room-is : replyRoom (blockOf list) ≡ 7 + h .vectors * (9 + 4 * h .streams * h .width)
+  unfolding replyRoom
+  room-is = rw (streams-are, width-are, vectors-are)
+
+module _ {h : Header} {list : List ℤ} (held : Holds list) (headed : Heads h list) where
+  -- M, Q and N are small, and N x D is a machine number
+  pub few-streams : h .streams ≤ 4
+  few-streams = omega (arith, streams-are headed, held .ranged .streams)
+
+  pub few-bits : h .width ≤ 6
+  few-bits = omega (arith, width-are headed, width-small (blockOf list .width) (held .ranged .width))
+
+  pub few-vectors : h .vectors ≤ 64
+  few-vectors = omega (arith, vectors-are headed, held .ranged .vectors)
+
+  pub few-soft : h .streams * h .width ≤ 24
+  few-soft = mul-le-mul few-streams few-bits
+
+  pub total-fits : h .vectors * h .share < 2 ^ 32
+  total-fits = omega (arith, total-is headed, total-small (blockOf list) (held .ranged))
+
+  -- The room is small
+  pub room-small : replyRoom (blockOf list) ≤ 6727
+  room-small =
+      let each : 9 + 4 * h .streams * h .width ≤ 105 = omega (arith, mul-assoc 4 (h .streams) (h .width), few-soft) in
+      omega (arith, room-is headed, mul-le-mul few-vectors each)
+
+  -- The nodes that the vectors are sure of
+  pub spent-none : 0 + (h .vectors - 0) * h .streams ≤ h .vectors * h .share
+  spent-none =
+      let less : h .streams ≤ h .share = omega (arith, streams-are headed, share-are headed, held .ranged .reserve) in
+      let e : h .vectors - 0 ≡ h .vectors = omega arith in
+      rw e (omega (arith, mul-le-mul-left (h .vectors) less))
+
+-- Vector k of the block
+abbrev vectorIn : List ℤ → ℕ → Vector
+vectorIn list k = vectorOf (blockOf list) (vectorRows list k)
+
+module _ {h : Header} {list : List ℤ} {k bits : ℕ} (s : SearchOneAsked h list k bits) where
+  -- It is one of those that the list holds
+  pub inside : k < countAt 2 list
+  inside = omega (arith, s .inside, s .headed .vectors-is)
+
+  vector-held : VectorInRange (blockOf list .streams) (blockOf list .width) (vectorRows list k)
+  unfolding blockOf
+  vector-held =
+      of-every (VectorInRange (blockOf list .streams) (blockOf list .width)) (blockOf list .vectors) (s .held .ranged .each)
+      (Memᴰ·map (vectorRows list) (in-upFrom 0 (countAt 2 list) k (omega arith) (omega (arith, inside))))
+
+  -- The bits of its label, and its allowance
+  bits-of : labelBits (vectorIn list k) ≡ h .streams * h .width
+  bits-of = bits-are (blockOf list) vector-held ∙ rw (streams-are (s .headed), width-are (s .headed))
+
+  module _ (spent : ℕ) where
+    allowance-is : h .vectors * h .share - spent - (h .vectors - (k + 1)) * h .streams ≡ allowanceAt list spent k
+    allowance-is = rw (total-is (s .headed), s .headed .vectors-is, streams-are (s .headed))
+
+    -- Its count leaves M nodes for each vector behind it
+    pub spent-more : spent + (h .vectors - k) * h .streams ≤ h .vectors * h .share
+        → spent + answerAt list spent k .count + (h .vectors - (k + 1)) * h .streams ≤ h .vectors * h .share
+    unfolding answerAt
+    spent-more left =
+        let e : h .vectors - k ≡ suc (h .vectors - (k + 1)) = omega (arith, s .inside) in
+        let one : (h .vectors - k) * h .streams ≡ (h .vectors - (k + 1)) * h .streams + h .streams = rw e (suc-mul _ (h .streams)) in
+        omega (arith, count-is (vectorIn list k) (allowanceAt list spent k), allowance-is)
+
+    -- The room that its answer takes
+    pub step-room : length (written (answerNumbers (answerAt list spent k))) ≤ 9 + 4 * h .streams * h .width
+    unfolding answerAt
+    step-room = rw (streams-are (s .headed), width-are (s .headed)) (answer-room (s .held .ranged) vector-held (allowanceAt list spent k))
+
+-- What a search of vector k leaves
+module _ {h : Header} {list : List ℤ} {k : ℕ} {before : List ℤ} (s : SearchOneAsked h list k (length before)) (spent : ℕ) {allowed : ℕ}
+    (granted : allowed ≡ h .vectors * h .share - spent - (h .vectors - (k + 1)) * h .streams) {stopped : Bool} {count label : ℕ}
+    {after : List ℤ} (result : Answered (vectorIn list k) allowed stopped count label before after) where
+  found : Answered (vectorIn list k) (allowanceAt list spent k) stopped count label before after
+  found = rw (granted ∙ allowance-is s spent) at result
+
+  abbrev soft : List ℤ
+  soft = answer (vectorIn list k) (allowanceAt list spent k) .result .soft
+
+  soft-length : length soft ≡ h .streams * h .width
+  soft-length = soft-count (vectorIn list k) (allowanceAt list spent k) ∙ bits-of s
+
+  -- The array holds the soft values, and behind them what stood there
+  after-is : after ≡ soft ++ drop (h .streams * h .width) before
+  after-is = found .soft-is ∙ ap (λ (n : ℕ). soft ++ drop n before) (bits-of s)
+
+  pub after-length : length after ≡ 24
+  after-length =
+      let bits = h .streams * h .width in
+      omega (
+        arith,
+        ap length after-is,
+        length-append soft (drop bits before),
+        length-drop bits before,
+        soft-length,
+        few-soft (s .held) (s .headed),
+        s .array,
+      )
+
+  -- What was found is small enough to be written
+  pub found-asked : {at room : ℕ} → at + (9 + 4 * h .streams * h .width) ≤ room → FoundAsked at count label room
+  found-asked fits =
+      let v = vector-held s in
+      record {
+        counts = rw (found .count-is) (count-short (s .held .ranged) v (allowanceAt list spent k));
+        labels = rw (found .label-is) (label-short (s .held .ranged) v (allowanceAt list spent k));
+        buffer = omega arith;
+      }
+
+  pub soft-asked : (at : ℕ) {next room room′ : ℕ} → at + (9 + 4 * h .streams * h .width) ≤ room → room′ ≡ room → next ≤ at + 9
+      → SoftAsked next (h .streams * h .width) after room′
+  soft-asked at fits same near = record {
+    few = few-soft (s .held) (s .headed);
+    bits = after-length;
+    buffer = omega (arith, mul-assoc 4 (h .streams) (h .width));
+    each = λ i j.
+        let inside : i < length soft = omega (arith, soft-length) in
+        rw (after-is, List·getD-append soft (drop (h .streams * h .width) before) (pos 0) i inside)
+        (every-at folded soft i (soft-short (s .held .ranged) (vector-held s) (allowanceAt list spent k)) inside);
+  }
+
+  -- As a whole it is the answer
+  answer-is : answerOf stopped count label (take (h .streams * h .width) after) ≡ answerAt list spent k
+  unfolding answerAt
+  answer-is =
+      let bits = h .streams * h .width in
+      let front : take bits after ≡ soft = ap (take bits) after-is ∙ take-at soft (drop bits before) bits soft-length in
+      λ j. record {
+        stopped = found .stopped-is j;
+        count = found .count-is j;
+        result = record { label = found .label-is j; soft = front j };
+      }
+
+  pub found-count : count ≡ answerAt list spent k .count
+  found-count = ap (λ (x : Answer). x .count) answer-is
+
+  -- which is written in two parts
+  pub found-wrote : {l mid end : List ℕ} {at next last : ℕ} → Wrote l at (written (markOf stopped ∷ count ∷ label ∷ [])) mid next
+      → Wrote mid next (written (map folded (take (h .streams * h .width) after))) end last
+      → Wrote l at (written (answerNumbers (answerAt list spent k))) end last
+  found-wrote =
+      let softs = map folded (take (h .streams * h .width) after) in
+      wrote-both
+      (ap (λ (x : Answer). written (answerNumbers x)) (sym answer-is) ∙ written-append (markOf stopped ∷ count ∷ label ∷ []) softs)
+
+-- What is left to write after k vectors, with `spent` nodes walked
+abbrev pub restOf : List ℤ → ℕ → ℕ → List ℕ
+restOf list spent k = written (answersNumbers (answersFrom (blockOf list) spent (drop k (blockOf list .vectors))))
+
+module _ (list : List ℤ) (spent k : ℕ) where
+  -- The answer of vector k, and what is left after it
+  pub rest-more : k < countAt 2 list
+      → restOf list spent k ≡ written (answerNumbers (answerAt list spent k)) ++ restOf list (spent + answerAt list spent k .count) (k + 1)
+  unfolding answerAt
+  rest-more h =
+      let vs = blockOf list .vectors in
+      let some : k < length vs = omega (arith, vectors-count list) in
+      let first : drop k vs ≡ vectorRows list k ∷ drop (k + 1) vs = rw (drop-cons vs k [] some, vector-at list k [] h, add-one) in
+      let after : length (drop (k + 1) vs) ≡ countAt 2 list - (k + 1) = omega (arith, length-drop (k + 1) vs, vectors-count list) in
+      rw (first, ← after) (written-first (blockOf list) spent (vectorRows list k) (drop (k + 1) vs))
+
+  pub rest-none : countAt 2 list ≤ k → restOf list spent k ≡ []
+  unfolding answersFrom answersNumbers written
+  rest-none h =
+      let all : length (blockOf list .vectors) ≤ k = omega (arith, vectors-count list) in
+      rw (drop-of-length-le (blockOf list .vectors) all)

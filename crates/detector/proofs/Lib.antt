@@ -1,0 +1,6 @@
+pub mod Demands
+pub mod Replies
+pub mod Steps
+pub mod Held
+pub mod Turns
+pub mod Outcomes

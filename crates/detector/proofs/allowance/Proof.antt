@@ -1,0 +1,40 @@
+-- What is left for the vectors behind k is no more than what is not spent.
+use Prim.Native.Nat.{ℕ, _+_, _-_, _*_, _≤_}
+use mathlib.Core.Path.{_≡_, ap}
+use native.Mathlib.Nat.{mul-le-mul, mul-le-mul-right}
+use native.Mathlib.Omega.{arith}
+use borrow.Author.Needs.{needs}
+use Rattle.detector.proofs.allowance.Statement.{statement}
+use Rattle.detector.proofs.allowance.Tie as tie
+
+reserve-small : (c : tie.Start) → (c .args .h .vectors - 1 - c .args .k) * c .args .h .streams ≤ 256
+reserve-small c =
+    let few : c .args .h .vectors - 1 - c .args .k ≤ 64 = omega (arith, c .pre .vectors) in
+    mul-le-mul few (c .pre .streams)
+
+reserve-less : (c : tie.Start)
+    → (c .args .h .vectors - 1 - c .args .k) * c .args .h .streams ≤ (c .args .h .vectors - c .args .k) * c .args .h .streams
+reserve-less c = mul-le-mul-right (c .args .h .streams) (omega arith)
+
+sub-result-2 : tie.Need-sub-result-2
+sub-result-2 c = let s = c .before .before .before .before in omega (arith, s .pre .left, reserve-less s)
+
+returns : tie.Need-returns
+returns c =
+    let s = c .before .before .before .before .args in
+    let e : s .h .vectors - 1 - s .k ≡ s .h .vectors - (s .k + 1) = omega arith in
+    ap (λ (n : ℕ). s .h .vectors * s .h .share - s .spent - n * s .h .streams) e
+
+pub allowance-spec : {M : Type 1} → statement M
+allowance-spec =
+    tie.close
+    (tie.spec
+    (λ c. search needs)
+    (λ c. search needs)
+    (λ c. omega (arith, reserve-small (c .before .before)))
+    (λ c. search needs)
+    (λ c. search needs)
+    (λ c. search needs)
+    (λ c. omega (arith, reserve-small (c .before .before .before .before)))
+    sub-result-2
+    returns)

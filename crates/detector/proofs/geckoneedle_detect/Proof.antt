@@ -1,0 +1,49 @@
+-- A record is read or refused; what was read is what the lent list holds.
+use mathlib.Core.Path.{refl, sym, _∙_}
+use borrow.Author.Needs.{needs, sfits-of}
+use lib.IntN.{pos}
+use lib.ListN.{replicate, length-replicate}
+use mir.Syntax.{w64}
+use mir.Val.{SFits}
+use mir.Facts.{toZ-ofZ}
+use Rattle.search.specs.Holds.{Holds}
+use Rattle.search.proofs.Records.{lent-holds}
+use Rattle.detector.proofs.Outcomes.{when-ended, when-refused}
+use Rattle.detector.proofs.geckoneedle_detect.Statement.{statement}
+use Rattle.detector.proofs.geckoneedle_detect.Tie as tie
+
+holds : (c : tie.After-enum-told) → Holds (c .before .before .read-whole .last .1 .0)
+holds c =
+    lent-holds _ _ (replicate 3077 (pos 0)) _ (length-replicate 3077 (pos 0))
+    (rw (c .enum-told .given .1) at (c .before .before .read-whole .ensures))
+
+returns : tie.Need-returns
+returns c =
+    let w = c .before .before in
+    let t = w .before .before .before in
+    let f : SFits w64 (w .reply-to .result) = sfits-of (w .reply-to .ok) in
+    rw
+    (when-ended _ _ (replicate 3077 (pos 0)) _ _ (length-replicate 3077 (pos 0))
+    (rw (t .enum-told .given .1) at (t .before .before .read-whole .ensures)))
+    (toZ-ofZ f ∙ w .reply-to .ensures .0, w .reply-to .ensures .1)
+
+returns-2 : tie.Need-returns-2
+returns-2 c =
+    let k = c .before .before in
+    let f : SFits w64 (c .refused .result) = sfits-of (c .refused .ok) in
+    rw (when-refused _ _ (replicate 3077 (pos 0)) _ _ (rw (k .refusal .given .1) at (k .before .before .read-whole .ensures)))
+    (toZ-ofZ f ∙ c .refused .ensures, refl)
+
+pub geckoneedle-detect-spec : {M : Type 1} → statement M
+geckoneedle-detect-spec =
+    tie.close
+    (tie.spec
+    (λ c κs. search needs)
+    (λ c. search needs)
+    (λ c. sym (holds (c .before) .room))
+    (λ c κs. holds (c .before .before))
+    (λ c. search needs)
+    (λ c κs. search needs)
+    (λ c. search needs)
+    returns
+    returns-2)

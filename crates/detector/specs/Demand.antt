@@ -1,0 +1,51 @@
+-- Demand 1, from document 01, "Where a record is turned back": the conditions under which a call refuses; where none holds, it accepts.
+-- Demands 2 and 3, of what an accepted record is answered with.
+use Prim.Native.Nat.{ℕ, _<_}
+use mathlib.Core.Path.{_≡_}
+use mathlib.Core.Bool.{false}
+use mathlib.Core.Logic.{_⊎_}
+use mathlib.Core.List.{List, []}
+use lib.ListN.{length, getD}
+use Rattle.model.specs.Metric.{Vector}
+use Rattle.model.specs.Block.{Block, vectorOf, Answer, answers, InRange}
+use Rattle.model.specs.Demand.{Demand2, Demand3}
+use Rattle.block.specs.Contents.{blockOf}
+use Rattle.block.specs.Conditions.{Whole, TurnedBack}
+use Rattle.block.specs.declared.Refusal.{Refusal}
+use Rattle.block.specs.declared.Refusal.the-variants.{Buffer}
+use Rattle.detector.specs.Reply.{replyOf, replyRoom}
+
+-- The table's last row: the record is whole, and the buffer "shorter than 7 + N × (9 + 4 × M × Q)"
+pub record TooShort (bytes : List ℕ) (room : ℕ) : Type 0 where
+  pub whole : Whole bytes (length bytes)
+  pub short : room < replyRoom (blockOf (whole .numbers))
+
+-- The table's condition for a refusal
+abbrev pub Condition : List ℕ → ℕ → Refusal → Type 0
+Condition bytes room r = TurnedBack bytes r ⊎ ((r ≡ Buffer) × TooShort bytes room)
+
+-- An accepted record: all its numbers are passed, the block that they say is in range, the reply is that block's, and demand 3 holds of the
+-- answers that the reply is written from
+pub record Accepted (bytes : List ℕ) (reply : List ℕ) : Type 0 where
+  pub whole : Whole bytes (length bytes)
+  pub ranged : InRange (blockOf (whole .numbers))
+  pub reply-is : reply ≡ replyOf (blockOf (whole .numbers))
+  pub demand3 : Demand3 (blockOf (whole .numbers)) (answers (blockOf (whole .numbers)))
+
+-- Vector k of a block, from 0
+abbrev pub vectorAt : Block → ℕ → Vector
+vectorAt b k = vectorOf b (getD (b .vectors) k [])
+
+-- What stands for an answer beyond the last
+abbrev pub noAnswer : Answer
+noAnswer = record { stopped = false; count = 0; result = record { label = 0; soft = [] } }
+
+-- Answer k, from 0
+abbrev pub answerAt : List Answer → ℕ → Answer
+answerAt found k = getD found k noAnswer
+
+-- Demand 2, of a block and the answers to it: each vector has its answer and, unless that is marked stopped, its label and soft values are
+-- those over all labels
+pub record EachComplete (b : Block) (found : List Answer) : Type 0 where
+  pub many : length found ≡ length (b .vectors)
+  pub exact : (k : ℕ) → k < length (b .vectors) → answerAt found k .stopped ≡ false → Demand2 (vectorAt b k) (answerAt found k .result)

@@ -1,0 +1,4 @@
+pub mod Reply
+pub mod Outcome
+pub mod Demand
+pub mod Steps

@@ -1,0 +1,75 @@
+-- What the steps of a call ask, and the answer that each vector is given.
+use Prim.Native.Nat.{ℕ, _+_, _-_, _*_, _^_, _<_, _≤_}
+use mathlib.Core.Path.{_≡_}
+use mathlib.Core.List.{List}
+use lib.IntN.{ℤ, pos}
+use lib.ListN.{length, getD}
+use Rattle.model.specs.Block.{Answer, vectorOf, answer, allowance, mostStreams, mostVectors}
+use Rattle.wire.specs.Writing.{put}
+use Rattle.wire.specs.Folding.{folded}
+use Rattle.block.specs.Reading.{countAt}
+use Rattle.block.specs.Contents.{vectorRows, blockOf}
+use Rattle.detector.specs.Reply.{replyRoom}
+use Rattle.search.specs.Holds.{Holds}
+use Rattle.detector.specs.declared.Header.{Header}
+
+-- The bytes bs were put into the buffer l from a place on, and ended where the next ones begin
+pub record Wrote (l : List ℕ) (at : ℕ) (bs after : List ℕ) (next : ℕ) : Type 0 where
+  pub ends : next ≡ at + length bs
+  pub leaves : after ≡ put l at bs
+
+-- A header is that of the lent list
+pub record Heads (h : Header) (list : List ℤ) : Type 0 where
+  pub streams-is : h .streams ≡ countAt 0 list
+  pub width-is : h .width ≡ countAt 1 list
+  pub vectors-is : h .vectors ≡ countAt 2 list
+  pub clip-is : h .clip ≡ countAt 3 list
+  pub share-is : h .share ≡ countAt 4 list
+
+-- The allowance of vector k, from 0, after `spent` nodes were walked: N - (k + 1) vectors stand behind it
+abbrev pub allowanceAt : List ℤ → ℕ → ℕ → ℕ
+allowanceAt list spent k = allowance (blockOf list) spent (countAt 2 list - (k + 1))
+
+-- and its answer
+unfoldable pub answerAt : List ℤ → ℕ → ℕ → Answer
+answerAt list spent k = answer (vectorOf (blockOf list) (vectorRows list k)) (allowanceAt list spent k)
+
+-- What writing n soft values asks: room for four groups each, and values that fit these
+pub record SoftAsked (at n : ℕ) (soft : List ℤ) (room : ℕ) : Type 0 where
+  pub few : n ≤ 24
+  pub bits : length soft ≡ 24
+  pub buffer : at + 4 * n ≤ room
+  pub each : (i : ℕ) → i < n → folded (getD soft i (pos 0)) < 2 ^ 28
+
+-- What writing a mark and two numbers asks: room for one group and four each
+pub record FoundAsked (at count label room : ℕ) : Type 0 where
+  pub counts : count < 2 ^ 28
+  pub labels : label < 2 ^ 28
+  pub buffer : at + 9 ≤ room
+
+-- What an allowance asks: M nodes are left for each vector from k on, and N x D is a machine number
+pub record AllowanceAsked (h : Header) (spent k : ℕ) : Type 0 where
+  pub inside : k < h .vectors
+  pub streams : h .streams ≤ mostStreams
+  pub vectors : h .vectors ≤ mostVectors
+  pub total : h .vectors * h .share < 2 ^ 32
+  pub left : spent + (h .vectors - k) * h .streams ≤ h .vectors * h .share
+
+-- What searching vector k asks: the lent list, its header, and an array for the soft values
+pub record SearchOneAsked (h : Header) (list : List ℤ) (k bits : ℕ) : Type 0 where
+  pub held : Holds list
+  pub headed : Heads h list
+  pub inside : k < h .vectors
+  pub array : bits ≡ 24
+
+-- What answering it asks: besides, M nodes for each vector from k on, and room for an answer
+pub record StepAsked (h : Header) (list : List ℤ) (k at spent bits room : ℕ) : Type 0 where
+  pub search : SearchOneAsked h list k bits
+  pub left : spent + (h .vectors - k) * h .streams ≤ h .vectors * h .share
+  pub buffer : at + (9 + 4 * h .streams * h .width) ≤ room
+
+-- What a reply asks
+pub record ReplyAsked (h : Header) (list : List ℤ) (room : ℕ) : Type 0 where
+  pub held : Holds list
+  pub headed : Heads h list
+  pub buffer : replyRoom (blockOf list) ≤ room

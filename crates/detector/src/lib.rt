@@ -1,0 +1,237 @@
+// The detector: one block record in, one reply out.
+use block::Read;
+use block::Refusal;
+use search::Found;
+use search::Task;
+ghost use mathlib.Core.Path.{_≡_};
+ghost use mathlib.Core.List.{[], _∷_, _++_, map};
+ghost use Prim.Native.Nat.{_+_, _-_, _*_, _<_, _≤_};
+ghost use lib.IntN.{pos, negℤ};
+ghost use lib.ListN.{length, take};
+ghost use Rattle.wire.specs.Writing.{put};
+ghost use Rattle.wire.specs.Folding.{folded};
+ghost use Rattle.block.specs.Table.{refusalNumber};
+ghost use Rattle.model.specs.Block.{vectorOf};
+ghost use Rattle.block.specs.Reading.{countAt, vectorSize};
+ghost use Rattle.block.specs.Contents.{vectorRows, blockOf};
+ghost use Rattle.search.specs.Values.{Answered};
+ghost use Rattle.detector.specs.Reply.{replyOpening, markOf, answerNumbers, written, replyOf};
+ghost use Rattle.detector.specs.Outcome.{outcome, returned, bufferAfter, byRoom};
+ghost use Rattle.search.specs.Holds.{Holds};
+ghost use Rattle.detector.specs.Steps.{Wrote, Heads, answerAt};
+ghost use Rattle.detector.specs.Steps.{SoftAsked, FoundAsked, AllowanceAsked, SearchOneAsked, StepAsked, ReplyAsked};
+
+// A record's M, Q, N, C and D.
+struct Header {
+    streams: usize,
+    width: usize,
+    vectors: usize,
+    clip: u32,
+    share: u32,
+}
+
+// How far the vectors are answered: the place after the last answer, and the nodes that were walked.
+struct Step {
+    at: usize,
+    spent: u32,
+}
+
+const OPENING: [u8; 4] = [0x43, 0x42, 0x53, 0x31];
+
+// The i-th number of the lent list, which is a count.
+fn count_at(numbers: &[i32], i: usize) -> u32
+    requires { ⌜ i < length (now numbers) ⌝ }
+    ensures { λ r. ⌜ r ≡ countAt i (now (numbers .entry)) ⌝ }
+{
+    block::count_of(numbers[i]) as u32
+}
+
+// The header of the lent list.
+fn header_of(numbers: &[i32]) -> Header
+    requires { ⌜ length (now numbers) ≡ 3077 ⌝ }
+    ensures { λ r. ⌜ Heads r (now (numbers .entry)) ⌝ }
+{
+    Header {
+        streams: count_at(numbers, 0) as usize,
+        width: count_at(numbers, 1) as usize,
+        vectors: count_at(numbers, 2) as usize,
+        clip: count_at(numbers, 3),
+        share: count_at(numbers, 4),
+    }
+}
+
+// The reply's opening.
+fn write_opening(reply: &mut [u8])
+    requires { ⌜ 4 ≤ length (now reply) ⌝ }
+    ensures { λ _. ⌜ now (reply .exit) ≡ put (now (reply .entry)) 0 replyOpening ⌝ }
+{
+    reply[0] = OPENING[0];
+    reply[1] = OPENING[1];
+    reply[2] = OPENING[2];
+    reply[3] = OPENING[3];
+}
+
+// The opening and M, Q, N, each in one group; the place after them.
+fn write_head(reply: &mut [u8], m: usize, q: usize, n: usize) -> usize
+    requires { ⌜ (7 ≤ length (now reply)) × (m < 128) × (q < 128) × (n < 128) ⌝ }
+    ensures { λ r. ⌜ (r ≡ 7) × Wrote (now (reply .entry)) 0 (replyOpening ++ written (m ∷ q ∷ n ∷ [])) (now (reply .exit)) r ⌝ }
+{
+    write_opening(reply);
+    let second = wire::write_number(reply, 4, m as u32);
+    let third = wire::write_number(reply, second, q as u32);
+    wire::write_number(reply, third, n as u32)
+}
+
+// The first n soft values, folded; the place after them.
+fn write_soft(reply: &mut [u8], at: usize, soft: &[i32; 24], n: usize) -> usize
+    requires { ⌜ SoftAsked at n (now soft) (length (now reply)) ⌝ }
+    ensures { λ r. ⌜ Wrote (now (reply .entry)) at (written (map folded (take n (now (soft .entry))))) (now (reply .exit)) r ⌝ }
+{
+    let mut place = at;
+    let mut i = 0;
+    while i < n {
+        place = wire::write_number(reply, place, wire::fold(soft[i]));
+        i += 1;
+    }
+    place
+}
+
+// The mark of a search.
+fn mark(stopped: bool) -> u32
+    ensures { λ r. ⌜ r ≡ markOf stopped ⌝ }
+{
+    if stopped {
+        return 1;
+    }
+    0
+}
+
+// What a search found, but for the soft values: the mark in one group, nodes walked, label; the place after them.
+fn write_found(reply: &mut [u8], at: usize, stopped: bool, count: u32, label: u32) -> usize
+    requires { ⌜ FoundAsked at count label (length (now reply)) ⌝ }
+    ensures { λ r. ⌜ (r ≤ at + 9)
+        × Wrote (now (reply .entry)) at (written (markOf stopped ∷ count ∷ label ∷ [])) (now (reply .exit)) r ⌝ }
+{
+    let second = wire::write_number(reply, at, mark(stopped));
+    let third = wire::write_number(reply, second, count);
+    wire::write_number(reply, third, label)
+}
+
+// The nodes that vector k, from 0, may walk: N x D, less those spent, less M for each vector behind it.
+fn allowance(h: Header, spent: u32, k: usize) -> u32
+    requires { ⌜ AllowanceAsked h spent k ⌝ }
+    ensures { λ r. ⌜ r ≡ h .vectors * h .share - spent - (h .vectors - (k + 1)) * h .streams ⌝ }
+{
+    let reserve = (h.vectors - 1 - k) * h.streams;
+    h.vectors as u32 * h.share - spent - reserve as u32
+}
+
+// How many numbers a vector has.
+fn vector_size(m: usize, q: usize) -> usize
+    requires { ⌜ (m ≤ 4) × (q ≤ 6) ⌝ }
+    ensures { λ r. ⌜ r ≡ vectorSize m q ⌝ }
+{
+    m * m + 2 * m + m * q
+}
+
+// Vector k, from 0, is searched under an allowance.
+fn search_one(numbers: &[i32], h: Header, k: usize, allowed: u32, soft: &mut [i32; 24]) -> Found
+    requires { ⌜ SearchOneAsked h (now numbers) k (length (now soft)) ⌝ }
+    ensures { λ r. ⌜ Answered (vectorOf (blockOf (now (numbers .entry))) (vectorRows (now (numbers .entry)) k)) allowed
+        (r .stopped) (r .count) (r .label) (now (soft .entry)) (now (soft .exit)) ⌝ }
+{
+    let size = vector_size(h.streams, h.width);
+    let from = 5 + k * size;
+    let to = from + size;
+    let task = Task {
+        streams: h.streams,
+        width: h.width,
+        clip: h.clip,
+        allowance: allowed,
+    };
+    search::search_vector(task, &numbers[from..to], soft)
+}
+
+// Vector k, from 0, is searched under what those before it left, and its answer is written.
+fn answer_one(
+    numbers: &[i32],
+    h: Header,
+    k: usize,
+    step: Step,
+    soft: &mut [i32; 24],
+    reply: &mut [u8],
+) -> Step
+    requires { ⌜ StepAsked h (now numbers) k (step .at) (step .spent) (length (now soft)) (length (now reply)) ⌝ }
+    ensures { λ r. ⌜ Wrote (now (reply .entry)) (step .at) (written (answerNumbers (answerAt (now (numbers .entry)) (step .spent) k)))
+        (now (reply .exit)) (r .at)
+        × (r .spent ≡ step .spent + answerAt (now (numbers .entry)) (step .spent) k .count)
+        × (length (now (soft .exit)) ≡ 24) ⌝ }
+{
+    let allowed = allowance(h, step.spent, k);
+    let found = search_one(numbers, h, k, allowed, soft);
+    let walked = found.count;
+    let next = write_found(reply, step.at, found.stopped, walked, found.label);
+    let at = write_soft(reply, next, soft, h.streams * h.width);
+    let spent = step.spent + walked;
+    Step { at, spent }
+}
+
+// The whole reply, vector by vector in record order; its length.
+fn answer_all(numbers: &[i32], h: Header, reply: &mut [u8]) -> usize
+    requires { ⌜ ReplyAsked h (now numbers) (length (now reply)) ⌝ }
+    ensures { λ r. ⌜ Wrote (now (reply .entry)) 0 (replyOf (blockOf (now (numbers .entry)))) (now (reply .exit)) r ⌝ }
+{
+    let mut soft = [0i32; 24];
+    let mut step = Step {
+        at: write_head(reply, h.streams, h.width, h.vectors),
+        spent: 0,
+    };
+    let n = h.vectors;
+    let mut k = 0;
+    while k < n {
+        step = answer_one(numbers, h, k, step, &mut soft, reply);
+        k += 1;
+    }
+    step.at
+}
+
+// Minus a refusal's number.
+fn refused(refusal: Refusal) -> i64
+    ensures { λ r. ⌜ r ≡ negℤ (pos (refusalNumber refusal)) ⌝ }
+{
+    -(block::refusal_number(refusal) as i64)
+}
+
+// The buffer a reply asks for.
+fn room(m: usize, q: usize, n: usize) -> usize
+    requires { ⌜ (m ≤ 4) × (q ≤ 6) × (n ≤ 64) ⌝ }
+    ensures { λ r. ⌜ r ≡ 7 + n * (9 + 4 * m * q) ⌝ }
+{
+    7 + n * (9 + 4 * m * q)
+}
+
+// The reply to the record that the lent list holds, if the buffer has room for any reply of its size.
+fn reply_to(numbers: &[i32], reply: &mut [u8]) -> i64
+    requires { ⌜ Holds (now numbers) ⌝ }
+    ensures { λ r. ⌜ (r ≡ returned (byRoom (length (now (reply .entry))) (blockOf (now (numbers .entry)))))
+        × (now (reply .exit) ≡ bufferAfter (byRoom (length (now (reply .entry))) (blockOf (now (numbers .entry)))) (now (reply .entry))) ⌝ }
+{
+    let h = header_of(numbers);
+    if reply.len() < room(h.streams, h.width, h.vectors) {
+        return refused(Refusal::Buffer);
+    }
+    answer_all(numbers, h, reply) as i64
+}
+
+// One record in, one reply out: the reply's length, or minus the refusal number over an untouched buffer.
+#[no_mangle]
+pub extern "C" fn geckoneedle_detect(record: &[u8], reply: &mut [u8]) -> i64
+    ensures { λ r. ⌜ (r ≡ returned (outcome (now («record» .entry)) (length (now (reply .entry)))))
+        × (now (reply .exit) ≡ bufferAfter (outcome (now («record» .entry)) (length (now (reply .entry)))) (now (reply .entry))) ⌝ }
+{
+    let mut numbers = [0i32; block::MOST];
+    match block::read_whole(record, &mut numbers) {
+        Read::Ended(_) => reply_to(&numbers, reply),
+        Read::Refused(refusal) => refused(refusal),
+    }
+}

@@ -1,0 +1,82 @@
+/*
+ * Geckoneedle: a soft-value detector for the four-stream modes of IEEE 802.11.
+ *
+ * One call takes one block record and writes one reply. The record's layout, and what it means, are in document 01; the reply's is below.
+ *
+ * The function behind this header is proved: for every record and every buffer, the returned number and every byte of the buffer
+ * afterwards are those that the project's definitions say. The proof stands on what C promises at the call: `record` points to `record_len`
+ * bytes that may be read, `reply` to `reply_len` bytes that may be written, the two do not overlap, and nobody else writes to either during
+ * the call. A length of 0 is fine with any pointer that is not null.
+ */
+#ifndef GECKONEEDLE_H
+#define GECKONEEDLE_H
+
+#include <stddef.h>
+#include <stdint.h>
+
+#ifdef __cplusplus
+extern "C" {
+#endif
+
+/* A record is never longer than this. */
+#define GECKONEEDLE_RECORD_MAX 8207
+
+/*
+ * The buffer that a reply to a record of m streams, q bits a symbol and n vectors asks for. A shorter one is refused (14); the reply itself
+ * may be shorter.
+ */
+#define GECKONEEDLE_REPLY_ROOM(m, q, n) ((size_t)7 + (size_t)(n) * ((size_t)9 + (size_t)4 * (size_t)(m) * (size_t)(q)))
+
+/* The largest of these: four streams, six bits, 64 vectors. A buffer of this size is never refused. */
+#define GECKONEEDLE_REPLY_MAX 6727
+
+/*
+ * Why a record was refused. Checks follow the record's order, each number is read and then ranged before the next, and the first check
+ * that fails decides.
+ */
+enum geckoneedle_refusal {
+    GECKONEEDLE_OPENING = 1,    /* the first four bytes are missing or not 43 42 52 31 */
+    GECKONEEDLE_ENDS = 2,       /* the record ends before a number's last group */
+    GECKONEEDLE_MALFORMED = 3,  /* a number of four groups that has no last one, or whose last group is 0 after another */
+    GECKONEEDLE_STREAMS = 4,    /* M is not 1 to 4 */
+    GECKONEEDLE_WIDTH = 5,      /* Q is not 1, 2, 4 or 6 */
+    GECKONEEDLE_VECTORS = 6,    /* N is not 1 to 64 */
+    GECKONEEDLE_CLIP = 7,       /* C is above 16,777,215 */
+    GECKONEEDLE_SHARE = 8,      /* D is not M to 17,043,520 */
+    GECKONEEDLE_DIAGONAL = 9,   /* an entry on R's diagonal is not 1 to 2,047 */
+    GECKONEEDLE_ENTRY = 10,     /* a part of an entry right of it is not -2,047 to 2,047 */
+    GECKONEEDLE_RECEIVED = 11,  /* a part of y is not -131,071 to 131,071 */
+    GECKONEEDLE_PRIOR = 12,     /* a prior is not -1,048,575 to 1,048,575 */
+    GECKONEEDLE_TRAILING = 13,  /* bytes follow the last prior */
+    GECKONEEDLE_BUFFER = 14     /* the reply buffer is shorter than GECKONEEDLE_REPLY_ROOM(M, Q, N) */
+};
+
+/*
+ * Detects one block.
+ *
+ * Returns the reply's length, which is positive, or minus the refusal's number. A refusal alters no byte of the buffer; a reply alters its own
+ * bytes, from the buffer's first on, and none behind them.
+ *
+ * The reply: 43 42 53 31; M, Q, N; then for each vector, in the record's order
+ *
+ *     mark      0: the search is complete; 1: the allowance stopped it
+ *     nodes     how many nodes it walked
+ *     label     the M x Q bits of the best label as one number, stream 1 first, each stream's first bit highest
+ *     values    M x Q soft values in the same order, each from -C to C and folded: n as 2n if n is at least 0, else -2n - 1.
+ *               A positive value says 0, a negative one 1.
+ *
+ * Every number is in groups of seven bits, least significant first, the high bit set on every group but the last, at most four groups.
+ *
+ * A vector marked 1 reports over the labels that its search reached; a bit that has no such label on one side gets +C or -C, and deserves
+ * less trust than the value says. Every vector walks at least M nodes, so there is always a label.
+ *
+ * Nothing is kept between calls: no global state, no allocation, no file. Calls from several threads need no lock, as long as their buffers
+ * are their own. Stack: about 20 KiB, whatever the record is (measured on x86-64); 64 KiB are enough.
+ */
+int64_t geckoneedle_detect(const uint8_t *record, size_t record_len, uint8_t *reply, size_t reply_len);
+
+#ifdef __cplusplus
+}
+#endif
+
+#endif
