@@ -1,6 +1,7 @@
 //! Test records for a record reader: every refusal of document 01's table at its first and last place, both ends of every range,
 //! cut and over-long numbers, the order of checks, and records made and damaged by chance from a fixed seed.
 
+use crate::chance::Chance;
 use crate::record::{encode, places, Numbers, Place, Refusal, OPENING};
 
 /// The greatest number that four groups can hold.
@@ -63,34 +64,6 @@ pub fn all() -> Vec<Case> {
 }
 
 // Numbers by chance.
-
-/// A small generator (SplitMix64): the same numbers in every run.
-struct Chance(u64);
-
-impl Chance {
-    fn next(&mut self) -> u64 {
-        self.0 = self.0.wrapping_add(0x9E37_79B9_7F4A_7C15);
-        let mut mixed = self.0;
-        mixed = (mixed ^ (mixed >> 30)).wrapping_mul(0xBF58_476D_1CE4_E5B9);
-        mixed = (mixed ^ (mixed >> 27)).wrapping_mul(0x94D0_49BB_1331_11EB);
-        mixed ^ (mixed >> 31)
-    }
-
-    fn between(&mut self, least: i64, greatest: i64) -> i64 {
-        let width = (greatest - least + 1) as u64;
-        least + (self.next() % width) as i64
-    }
-
-    /// A number of the range: one of its ends, a small one, or any.
-    fn within(&mut self, (least, greatest): (i64, i64)) -> i64 {
-        match self.next() % 8 {
-            0 => least,
-            1 => greatest,
-            2..=4 => self.between(least.max(-70), greatest.min(70)),
-            _ => self.between(least, greatest),
-        }
-    }
-}
 
 /// The range of a number that has one, by document 01.
 fn range(place: Place, streams: i64) -> (i64, i64) {

@@ -1,5 +1,11 @@
 //! A second source for what is checked by running: written from document 01 alone, in plain Rust, and sharing no line with the
-//! detector.
+//! detector. Two detectors of its own: `plain`, to be believed, and `fast`, to be beaten.
 
+pub mod block;
 pub mod cases;
+pub mod chance;
+pub mod channel;
+pub mod exhaustive;
+pub mod fast;
+pub mod plain;
 pub mod record;

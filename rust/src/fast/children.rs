@@ -1,0 +1,76 @@
+//! A node's children in order, found as far as they are asked for.
+
+use super::axis::{key, key_label, key_number, least, FAR};
+use std::array::from_fn;
+
+/// The head of a row with no child left: above every key.
+const EXHAUSTED: i64 = FAR * 64;
+
+/// The children by rising metric, equal ones by smaller symbol. A row's children, those of one real-axis label, come in the order of
+/// the imaginary axis.
+pub struct Children<const A: usize, const B: usize> {
+    /// The rows' parts, and the parent's metric in each.
+    re: [i64; A],
+    /// Keys of the imaginary axis' parts and labels that are not yet in order.
+    im: [i64; B],
+    /// Those that are in order, and how many.
+    order: [i64; B],
+    known: usize,
+    /// How many children of each row have been tried.
+    tried: [u8; A],
+    /// Each row's next child, as a key of its metric and row.
+    heads: [i64; A],
+}
+
+/// A child: its partial metric and its two axis labels.
+#[derive(Clone, Copy)]
+pub struct Child {
+    pub metric: i64,
+    pub row: usize,
+    pub column: usize,
+}
+
+impl<const A: usize, const B: usize> Children<A, B> {
+    #[inline(always)]
+    pub fn new(re: [i64; A], im: [i64; B]) -> Self {
+        let mut im = from_fn(|label| key::<B>(im[label], label));
+        let mut order = [0; B];
+        order[0] = take_least(&mut im);
+        let first = key_number::<B>(order[0]);
+        let heads = from_fn(|row| key::<A>(re[row] + first, row));
+        Children { re, im, order, known: 1, tried: [0; A], heads }
+    }
+
+    /// The next child; its metric is above all others where none is left.
+    #[inline(always)]
+    pub fn next(&self) -> Child {
+        let head = least(&self.heads);
+        let row = key_label::<A>(head);
+        let column = key_label::<B>(self.order[usize::from(self.tried[row]) & (B - 1)]);
+        Child { metric: key_number::<A>(head), row, column }
+    }
+
+    /// Goes on to the next child of a row.
+    #[inline(always)]
+    pub fn advance(&mut self, row: usize) {
+        let place = usize::from(self.tried[row]) + 1;
+        self.tried[row] = place as u8;
+        if place == B {
+            self.heads[row] = EXHAUSTED;
+            return;
+        }
+        if place == self.known {
+            self.order[place & (B - 1)] = take_least(&mut self.im);
+            self.known += 1;
+        }
+        self.heads[row] = key::<A>(self.re[row] + key_number::<B>(self.order[place & (B - 1)]), row);
+    }
+}
+
+/// Takes the least key out of those left.
+#[inline(always)]
+fn take_least<const N: usize>(left: &mut [i64; N]) -> i64 {
+    let key = least(left);
+    left[key_label::<N>(key)] = FAR;
+    key
+}

@@ -1,0 +1,106 @@
+//! Reading a record: its sizes, and its vectors' numbers in record order.
+
+/// A row of document 01's table, 1 to 13.
+pub type Refusal = u32;
+
+pub struct Sizes {
+    pub streams: usize,
+    pub bits: usize,
+    pub vectors: usize,
+    pub clip: u32,
+    pub share: u32,
+}
+
+impl Sizes {
+    /// How many numbers a vector has: R, y and the priors.
+    pub fn vector_numbers(&self) -> usize {
+        self.streams * (self.streams + 2 + self.bits)
+    }
+}
+
+/// What is left of the record.
+struct Rest<'a>(&'a [u8]);
+
+/// The record's sizes, and its vectors' numbers.
+pub fn read(record: &[u8]) -> Result<(Sizes, Vec<i32>), Refusal> {
+    let Some(after) = record.strip_prefix(&[0x43, 0x42, 0x52, 0x31]) else {
+        return Err(1);
+    };
+    let mut rest = Rest(after);
+    let sizes = rest.sizes()?;
+    let mut numbers = Vec::with_capacity(sizes.vectors * sizes.vector_numbers());
+    for _ in 0..sizes.vectors {
+        rest.vector(&mut numbers, &sizes)?;
+    }
+    if rest.0.is_empty() {
+        Ok((sizes, numbers))
+    } else {
+        Err(13)
+    }
+}
+
+impl Rest<'_> {
+    fn sizes(&mut self) -> Result<Sizes, Refusal> {
+        let streams = self.plain(1, 4, 4)?;
+        let bits = self.number()?;
+        if !matches!(bits, 1 | 2 | 4 | 6) {
+            return Err(5);
+        }
+        let vectors = self.plain(1, 64, 6)?;
+        let clip = self.plain(0, 16_777_215, 7)?;
+        let share = self.plain(streams, 17_043_520, 8)?;
+        Ok(Sizes { streams: streams as usize, bits: bits as usize, vectors: vectors as usize, clip, share })
+    }
+
+    fn vector(&mut self, numbers: &mut Vec<i32>, sizes: &Sizes) -> Result<(), Refusal> {
+        for right in (0..sizes.streams).rev() {
+            numbers.push(self.plain(1, 2_047, 9)? as i32);
+            self.folded(numbers, 2 * right, 2_047, 10)?;
+        }
+        self.folded(numbers, 2 * sizes.streams, 131_071, 11)?;
+        self.folded(numbers, sizes.streams * sizes.bits, 1_048_575, 12)
+    }
+
+    #[inline(always)]
+    fn folded(&mut self, numbers: &mut Vec<i32>, count: usize, most: i32, refusal: Refusal) -> Result<(), Refusal> {
+        for _ in 0..count {
+            let folded = self.number()? as i32;
+            let number = folded >> 1 ^ -(folded & 1);
+            if number < -most || most < number {
+                return Err(refusal);
+            }
+            numbers.push(number);
+        }
+        Ok(())
+    }
+
+    #[inline(always)]
+    fn plain(&mut self, least: u32, greatest: u32, refusal: Refusal) -> Result<u32, Refusal> {
+        let number = self.number()?;
+        if least <= number && number <= greatest {
+            Ok(number)
+        } else {
+            Err(refusal)
+        }
+    }
+
+    /// One number; a single group and its end are by far the most common.
+    #[inline(always)]
+    fn number(&mut self) -> Result<u32, Refusal> {
+        let (&byte, after) = self.0.split_first().ok_or(2_u32)?;
+        self.0 = after;
+        if byte < 128 {
+            return Ok(u32::from(byte));
+        }
+        let mut number = u32::from(byte) - 128;
+        for shift in [7, 14, 21] {
+            let (&byte, after) = self.0.split_first().ok_or(2_u32)?;
+            self.0 = after;
+            number |= u32::from(byte & 127) << shift;
+            if byte < 128 {
+                return if byte == 0 { Err(3) } else { Ok(number) };
+            }
+        }
+        Err(3)
+    }
+}

@@ -1,0 +1,222 @@
+//! The plain detector: document 01 word for word, for checking others by. What the walk asks of the leaves walked so far is worked
+//! out from their list at every test, and nothing is kept.
+//!
+//! Streams, rows and bits count from 0 here: stream 0 is the paper's stream 1, and bit 0 the label's first and highest.
+
+use crate::block::{Block, Complex, Vector};
+use crate::record::{folded, plain, read};
+
+/// The four bytes that open a reply.
+const OPENING: [u8; 4] = [0x43, 0x42, 0x53, 0x31];
+
+/// The reply's length, or minus the refusal number.
+pub fn detect(record: &[u8], reply: &mut [u8]) -> i64 {
+    let block = match read(record) {
+        Ok(numbers) => Block::of(&numbers),
+        Err(refusal) => return -i64::from(refusal),
+    };
+    if reply.len() < block.buffer_bound() {
+        return -14;
+    }
+    let bytes = reply_bytes(&block);
+    reply[..bytes.len()].copy_from_slice(&bytes);
+    bytes.len() as i64
+}
+
+/// What the reply says of one vector.
+#[derive(Clone, Debug, PartialEq, Eq)]
+pub struct Answer {
+    pub stopped: bool,
+    pub nodes: i64,
+    pub label: usize,
+    pub values: Vec<i64>,
+}
+
+fn reply_bytes(block: &Block) -> Vec<u8> {
+    let mut bytes = OPENING.to_vec();
+    for number in [block.streams, block.bits, block.vectors.len()] {
+        bytes.extend(plain(number as i64));
+    }
+    for answer in answers(block) {
+        bytes.extend(plain(i64::from(answer.stopped)));
+        bytes.extend(plain(answer.nodes));
+        bytes.extend(plain(answer.label as i64));
+        bytes.extend(answer.values.into_iter().flat_map(folded));
+    }
+    bytes
+}
+
+/// The answers in record order: vector k may walk N x D, less the nodes walked before it, less (N - k) x M.
+pub fn answers(block: &Block) -> Vec<Answer> {
+    let count = block.vectors.len() as i64;
+    let mut walked = 0;
+    let mut all = Vec::new();
+    for (vector, k) in block.vectors.iter().zip(1..) {
+        let allowance = count * block.share - walked - (count - k) * block.streams as i64;
+        let answer = answer(block, vector, allowance);
+        walked += answer.nodes;
+        all.push(answer);
+    }
+    all
+}
+
+fn answer(block: &Block, vector: &Vector, allowance: i64) -> Answer {
+    let mut walk = Walk { block, vector, allowance, nodes: 0, stopped: false, leaves: Vec::new() };
+    walk.below(&[], 0);
+    let best = best(&walk.leaves).expect("an allowance of at least M reaches a leaf");
+    let value = |bit: usize| soft_value(&walk.leaves, mask(block, bit), vector.priors[bit], block.clip);
+    let values = (0..block.streams * block.bits).map(value).collect();
+    Answer { stopped: walk.stopped, nodes: walk.nodes, label: best.label, values }
+}
+
+// Streams and labels.
+
+/// The amplitude of one axis' bits.
+fn amplitude(axis_bits: usize, label: usize) -> i64 {
+    let by_rising_amplitude: &[(usize, i64)] = match axis_bits {
+        0 => &[(0, 0)],
+        1 => &[(0b0, -1), (0b1, 1)],
+        2 => &[(0b00, -3), (0b01, -1), (0b11, 1), (0b10, 3)],
+        _ => &[(0b000, -7), (0b001, -5), (0b011, -3), (0b010, -1), (0b110, 1), (0b111, 3), (0b101, 5), (0b100, 7)],
+    };
+    let (_, amplitude) = by_rising_amplitude.iter().find(|row| row.0 == label).expect("every label has an amplitude");
+    *amplitude
+}
+
+/// A symbol's point: the first half of its bits gives the real amplitude, the second half the imaginary.
+pub fn point(bits: usize, symbol: usize) -> Complex {
+    let second_half = bits / 2;
+    let first_half = bits - second_half;
+    Complex { re: amplitude(first_half, symbol >> second_half), im: amplitude(second_half, symbol % (1 << second_half)) }
+}
+
+/// A bit's place in a label.
+fn mask(block: &Block, bit: usize) -> usize {
+    1 << (block.streams * block.bits - 1 - bit)
+}
+
+// The metric.
+
+/// Row i's increment, where the streams from i on have these symbols, stream i's first.
+fn increment(block: &Block, vector: &Vector, row: usize, symbols: &[usize]) -> i64 {
+    let terms = vector.matrix[row][row..].iter().zip(symbols).map(|(&entry, &symbol)| entry * point(block.bits, symbol));
+    let sum = terms.fold(Complex::ZERO, |sum, term| sum + term);
+    (vector.received[row] - sum).magnitude_squared() + prior_cost(block, vector, row, symbols[0])
+}
+
+/// The priors' magnitudes where a stream's bits go against their signs.
+fn prior_cost(block: &Block, vector: &Vector, stream: usize, symbol: usize) -> i64 {
+    let priors = &vector.priors[stream * block.bits..(stream + 1) * block.bits];
+    let cost = |(place, &prior): (usize, &i64)| {
+        let is_one = symbol >> (block.bits - 1 - place) & 1 == 1;
+        let goes_against = if is_one { prior > 0 } else { prior < 0 };
+        if goes_against {
+            prior.abs()
+        } else {
+            0
+        }
+    };
+    priors.iter().enumerate().map(cost).sum()
+}
+
+// Demand 2 over a set of labels.
+
+/// A label and its metric.
+#[derive(Clone, Copy, Debug, PartialEq, Eq)]
+pub struct Leaf {
+    pub label: usize,
+    pub metric: i64,
+}
+
+/// The leaf of the least metric, the smallest label on a tie.
+pub fn best(leaves: &[Leaf]) -> Option<Leaf> {
+    leaves.iter().copied().min_by_key(|leaf| (leaf.metric, leaf.label))
+}
+
+/// The least metric over labels whose bit is this, if there is any.
+fn least(leaves: &[Leaf], mask: usize, is_one: bool) -> Option<i64> {
+    leaves.iter().filter(|leaf| (leaf.label & mask != 0) == is_one).map(|leaf| leaf.metric).min()
+}
+
+/// Least metric with the bit 1, less the least with it 0, less the prior, clipped; an empty side is infinite.
+pub fn soft_value(leaves: &[Leaf], mask: usize, prior: i64, clip: i64) -> i64 {
+    match (least(leaves, mask, true), least(leaves, mask, false)) {
+        (Some(one), Some(zero)) => (one - zero - prior).clamp(-clip, clip),
+        (None, _) => clip,
+        (_, None) => -clip,
+    }
+}
+
+// The walk.
+
+struct Walk<'a> {
+    block: &'a Block,
+    vector: &'a Vector,
+    allowance: i64,
+    nodes: i64,
+    stopped: bool,
+    leaves: Vec<Leaf>,
+}
+
+impl Walk<'_> {
+    /// Walks below a node, or the root: `symbols` of the streams chosen, the lowest stream first, and their partial metric.
+    fn below(&mut self, symbols: &[usize], partial: i64) {
+        if symbols.len() == self.block.streams {
+            self.leaves.push(Leaf { label: self.label(symbols), metric: partial });
+            return;
+        }
+        for (metric, child) in self.children(symbols, partial) {
+            if !self.stopped && self.passes(&child, metric) {
+                self.take(&child, metric);
+            }
+        }
+    }
+
+    /// The children by rising partial metric, equal ones by smaller symbol.
+    fn children(&self, symbols: &[usize], partial: i64) -> Vec<(i64, Vec<usize>)> {
+        let stream = self.block.streams - 1 - symbols.len();
+        let child = |symbol: usize| {
+            let chosen = [&[symbol], symbols].concat();
+            (partial + increment(self.block, self.vector, stream, &chosen), chosen)
+        };
+        let mut all: Vec<_> = (0..1 << self.block.bits).map(child).collect();
+        all.sort_by_key(|(metric, chosen)| (*metric, chosen[0]));
+        all
+    }
+
+    /// Counts a child that passes and finishes its subtree, or stops where the allowance is walked.
+    fn take(&mut self, child: &[usize], metric: i64) {
+        if self.nodes == self.allowance {
+            self.stopped = true;
+            return;
+        }
+        self.nodes += 1;
+        self.below(child, metric);
+    }
+
+    /// Does a child of this partial metric pass? Every one does before the first leaf.
+    fn passes(&self, child: &[usize], metric: i64) -> bool {
+        let Some(best) = best(&self.leaves) else {
+            return true;
+        };
+        let first_chosen = (self.block.streams - child.len()) * self.block.bits;
+        let differing = self.label(child) ^ best.label;
+        let counts = |bit: usize| bit < first_chosen || differing & mask(self.block, bit) != 0;
+        let mut bits = 0..self.block.streams * self.block.bits;
+        metric <= best.metric || bits.any(|bit| counts(bit) && self.is_below_limit(metric, best, bit))
+    }
+
+    /// Is a metric below a bit's limit: below U, and below B + C with the prior added or taken off?
+    fn is_below_limit(&self, metric: i64, best: Leaf, bit: usize) -> bool {
+        let mask = mask(self.block, bit);
+        let is_one = best.label & mask != 0;
+        let prior = self.vector.priors[bit];
+        let clipped = best.metric + self.block.clip + if is_one { -prior } else { prior };
+        metric < clipped && least(&self.leaves, mask, !is_one).is_none_or(|opposite| metric < opposite)
+    }
+
+    /// The label of these symbols, the lowest stream first; bits of streams not yet chosen are 0.
+    fn label(&self, symbols: &[usize]) -> usize {
+        symbols.iter().fold(0, |label, symbol| (label << self.block.bits) + symbol)
+    }
+}
