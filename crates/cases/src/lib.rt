@@ -1,5 +1,4 @@
 // The input of the programs that run test records: the records one after another, each behind its length in two bytes, the low one first.
-use libc::STDOUT_FILENO;
 ghost use mathlib.Core.Path.{_≡_};
 ghost use Prim.Native.Nat.{_<_};
 ghost use lib.ListN.{length};
@@ -26,11 +25,4 @@ pub fn case_at(input: &[u8], at: usize) -> Case
         return Case::CutOff;
     }
     Case::Bytes(start, start + length)
-}
-
-// The line of a refused record.
-pub fn print_refused(number: u32) {
-    io::write_all(STDOUT_FILENO, b"refused ");
-    io::print_decimal(STDOUT_FILENO, number as u64);
-    io::write_all(STDOUT_FILENO, b"\n");
 }

@@ -25,7 +25,7 @@ use Rattle.block.specs.declared.Read.the-variants.{Ended, Refused}
 use Rattle.block.proofs.Conditions.{turned-back, whole-read, read-whole, whole-in-range}
 use Rattle.detector.specs.Reply.{replyOf, replyRoom}
 use Rattle.detector.specs.Outcome.{Outcome, refused, replied, byRoom, byRead, outcome}
-use Rattle.detector.specs.Demand.{Condition, Accepted, answerAt, EachComplete}
+use Rattle.detector.specs.Demand.{Condition, Accepted, nthAnswer, EachComplete}
 use Rattle.detector.proofs.Outcomes.{room-short}
 
 -- A refusal is no reply
@@ -129,7 +129,7 @@ results-many b spent (rows ∷ later) (a ∷ rest) r = ap suc (results-many b (s
 
 -- Demand 2 of vector k, if its answer is complete
 results-exact : (b : Block) (spent : ℕ) (vs : List (List Row)) (found : List Answer) → ResultsFrom b spent vs found → (k : ℕ)
-    → k < length vs → answerAt found k .stopped ≡ false → Demand2 (vectorOf b (getD vs k [])) (answerAt found k .result)
+    → k < length vs → nthAnswer found k .stopped ≡ false → Demand2 (vectorOf b (getD vs k [])) (nthAnswer found k .result)
 results-exact b spent [] found r k h e = absurd (omega arith)
 results-exact b spent (rows ∷ later) [] r k h e = absurd r
 results-exact b spent (rows ∷ later) (a ∷ rest) r zero h e = r .0 .1 .exact e

@@ -33,19 +33,19 @@ pub record Accepted (bytes : List ℕ) (reply : List ℕ) : Type 0 where
   pub demand3 : Demand3 (blockOf (whole .numbers)) (answers (blockOf (whole .numbers)))
 
 -- Vector k of a block, from 0
-abbrev pub vectorAt : Block → ℕ → Vector
-vectorAt b k = vectorOf b (getD (b .vectors) k [])
+abbrev pub nthVector : Block → ℕ → Vector
+nthVector b k = vectorOf b (getD (b .vectors) k [])
 
 -- What stands for an answer beyond the last
 abbrev pub noAnswer : Answer
 noAnswer = record { stopped = false; count = 0; result = record { label = 0; soft = [] } }
 
 -- Answer k, from 0
-abbrev pub answerAt : List Answer → ℕ → Answer
-answerAt found k = getD found k noAnswer
+abbrev pub nthAnswer : List Answer → ℕ → Answer
+nthAnswer found k = getD found k noAnswer
 
 -- Demand 2, of a block and the answers to it: each vector has its answer and, unless that is marked stopped, its label and soft values are
 -- those over all labels
 pub record EachComplete (b : Block) (found : List Answer) : Type 0 where
   pub many : length found ≡ length (b .vectors)
-  pub exact : (k : ℕ) → k < length (b .vectors) → answerAt found k .stopped ≡ false → Demand2 (vectorAt b k) (answerAt found k .result)
+  pub exact : (k : ℕ) → k < length (b .vectors) → nthAnswer found k .stopped ≡ false → Demand2 (nthVector b k) (nthAnswer found k .result)

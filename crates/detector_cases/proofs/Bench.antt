@@ -11,16 +11,16 @@ use lib.ListN.{length, getD, drop, take, length-take, drop-of-length-le}
 use lib.Seq.{drop-cons}
 use Rattle.cases.specs.Cases.{caseAt}
 use Rattle.cases.specs.declared.Case.{Case}
-use Rattle.detector_cases.specs.Bench.{filled, ofTwo, secondAt}
+use Rattle.detector_cases.specs.Bench.{allFill, ofTwo, secondAt}
 
 -- One place further
-pub filled-step : (l : List ℕ) (i : ℕ) → i < length l → filled (drop i l) ≡ (eqb (getD l i 0) 0xAA && filled (drop (i + 1) l))
-unfolding filled
+pub filled-step : (l : List ℕ) (i : ℕ) → i < length l → allFill (drop i l) ≡ (eqb (getD l i 0) 0xAA && allFill (drop (i + 1) l))
+unfolding allFill
 filled-step l i h = rw (add-one, drop-cons l i 0)
 
 -- At the end nothing is left to test
-pub filled-none : (l : List ℕ) (i : ℕ) → length l ≤ i → filled (drop i l) ≡ true
-unfolding filled
+pub filled-none : (l : List ℕ) (i : ℕ) → length l ≤ i → allFill (drop i l) ≡ true
+unfolding allFill
 filled-none l i h = rw (drop-of-length-le l h)
 
 -- Within the input, the second item is the framed one, if it has two bytes

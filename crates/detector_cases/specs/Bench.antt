@@ -14,9 +14,9 @@ abbrev pub hexDigit : ℕ → ℕ
 hexDigit d = cond (ltb d 10) (48 + d) (55 + d)
 
 -- Whether every byte is the one that the buffer is filled with
-unfoldable pub filled : List ℕ → Bool
-filled [] = true
-filled (b ∷ rest) = eqb b 0xAA && filled rest
+unfoldable pub allFill : List ℕ → Bool
+allFill [] = true
+allFill (b ∷ rest) = eqb b 0xAA && allFill rest
 
 -- An item of two bytes; any other is bad framing
 abbrev pub ofTwo : Case → Case

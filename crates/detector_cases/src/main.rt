@@ -15,7 +15,7 @@ ghost use Prim.Native.Nat.{_+_, _<_, _≤_};
 ghost use lib.ListN.{length, take, drop};
 ghost use Rattle.cases.specs.Cases.{lengthAt};
 ghost use Rattle.detector.specs.Outcome.{outcome, returned, bufferAfter};
-ghost use Rattle.detector_cases.specs.Bench.{hexDigit, filled, secondAt, TwoWithin};
+ghost use Rattle.detector_cases.specs.Bench.{hexDigit, allFill, secondAt, TwoWithin};
 
 // What the buffer is filled with.
 const FILL: u8 = 0xAA;
@@ -50,7 +50,7 @@ fn print_signed(z: i64) {
 
 // Is every byte the one that the buffer is filled with?
 fn untouched(bytes: &[u8]) -> bool
-    ensures { λ r. ⌜ r ≡ filled (now (bytes .entry)) ⌝ }
+    ensures { λ r. ⌜ r ≡ allFill (now (bytes .entry)) ⌝ }
 {
     let mut i = 0;
     while i < bytes.len() {

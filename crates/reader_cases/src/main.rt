@@ -59,6 +59,13 @@ fn checksum(numbers: &[i32; 3077], n: usize) -> u64
     sum
 }
 
+// The line of a refused record.
+fn print_refused(number: u32) {
+    io::write_all(STDOUT_FILENO, b"refused ");
+    io::print_decimal(STDOUT_FILENO, number as u64);
+    io::write_all(STDOUT_FILENO, b"\n");
+}
+
 fn print_accepted(count: usize, sum: u64) {
     io::write_all(STDOUT_FILENO, b"accepted ");
     io::print_decimal(STDOUT_FILENO, count as u64);
@@ -77,7 +84,7 @@ fn run(record: &[u8], numbers: &mut [i32; 3077])
             let n = count(numbers);
             print_accepted(n, checksum(numbers, n));
         }
-        Read::Refused(refusal) => cases::print_refused(block::refusal_number(refusal)),
+        Read::Refused(refusal) => print_refused(block::refusal_number(refusal)),
     }
 }
 

@@ -19,6 +19,13 @@ ghost use Rattle.search.specs.Limits.{vectorAt};
 ghost use Rattle.search.specs.Values.{Answered};
 ghost use Rattle.search.specs.Holds.{Holds};
 
+// The line of a refused record.
+fn print_refused(number: u32) {
+    io::write_all(STDOUT_FILENO, b"refused ");
+    io::print_decimal(STDOUT_FILENO, number as u64);
+    io::write_all(STDOUT_FILENO, b"\n");
+}
+
 fn print_signed(z: i32) {
     if z < 0 {
         io::write_all(STDOUT_FILENO, b"-");
@@ -112,7 +119,7 @@ fn run(record: &[u8], numbers: &mut [i32; 3077])
 {
     match block::read_whole(record, numbers) {
         Read::Ended(_) => search_all(numbers),
-        Read::Refused(refusal) => cases::print_refused(block::refusal_number(refusal)),
+        Read::Refused(refusal) => print_refused(block::refusal_number(refusal)),
     }
 }
 

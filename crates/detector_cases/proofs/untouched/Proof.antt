@@ -7,20 +7,20 @@ use borrow.Author.Needs.{needs}
 use borrow.Author.Tests.{eq-eqb, ne-eqb}
 use lib.Dec.{eqb}
 use lib.ListN.{length, drop, getD}
-use Rattle.detector_cases.specs.Bench.{filled}
+use Rattle.detector_cases.specs.Bench.{allFill}
 use Rattle.detector_cases.proofs.Bench.{filled-step, filled-none}
 use Rattle.detector_cases.proofs.untouched.Statement.{statement}
 use Rattle.detector_cases.proofs.untouched.Tie as tie
 
 abbrev Inv-loop : tie.InvT-loop
-Inv-loop bytes i₀ i = (i ≤ length bytes) × (filled bytes ≡ filled (drop i bytes))
+Inv-loop bytes i₀ i = (i ≤ length bytes) × (allFill bytes ≡ allFill (drop i bytes))
 
 abbrev μ-loop : tie.MeasureT-loop
 μ-loop bytes i₀ i = length bytes - i
 
 turn : (c : tie.In-loop Inv-loop μ-loop) → let l = c .before in
     let bytes = l .before .args .bytes .now in
-    filled bytes ≡ (eqb (getD bytes (l .loop .i) 0) 0xAA && filled (drop (l .loop .i + 1) bytes))
+    allFill bytes ≡ (eqb (getD bytes (l .loop .i) 0) 0xAA && allFill (drop (l .loop .i + 1) bytes))
 turn c = c .before .loop .inv .1 ∙ filled-step _ (c .before .loop .i) (omega arith)
 
 pub untouched-spec : {M : Type 1} → statement M
