@@ -18,7 +18,7 @@ use Rattle.wire.specs.Folding.{folded}
 use Rattle.block.specs.Reading.{countAt}
 use Rattle.block.specs.Contents.{vectorRows, blockOf}
 use Rattle.block.proofs.Places.{vectors-count, vector-at}
-use Rattle.search.specs.Program.{answerOf}
+use Rattle.pruning.specs.Program.{answerOf}
 use Rattle.search.specs.Values.{Answered}
 use Rattle.detector.specs.Reply.{markOf, answerNumbers, answersNumbers, written, replyRoom}
 use Rattle.search.specs.Holds.{Holds}

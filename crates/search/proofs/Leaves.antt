@@ -10,9 +10,9 @@ use lib.Seq.{take-at, drop-at, length-take-le}
 use Rattle.model.specs.Metric.{Vector, labelBits}
 use Rattle.metric.specs.Parts.{filled}
 use Rattle.metric.proofs.Filled.{filled-length}
-use Rattle.search.specs.Program.{Taken, takenOf, takenIn, zerosOf, onesOf, limitsOf, lowered, sooner, noted}
+use Rattle.pruning.specs.Program.{Taken, takenOf, takenIn, zerosOf, onesOf, limitsOf, lowered, sooner, noted}
 use Rattle.search.specs.Limits.{limitAt, widestFrom, Limited}
-use Rattle.search.proofs.Minima.{taken-kept, limits-are, limits-whole, limits-part, limits-length}
+use Rattle.pruning.proofs.Minima.{taken-kept, limits-are, limits-whole, limits-part, limits-length}
 use Rattle.search.proofs.Limits.{limited}
 
 -- A leaf noted, by its parts

@@ -1,14 +1,4 @@
 -- The search over numbers gives the model's answer, and the laws that code's proofs cite.
-pub mod Arrays
-pub mod Order
-pub mod Agree
-pub mod Below
-pub mod Answer
-pub mod Bounds
-pub mod Minima
-pub mod Steps
-pub mod Turns
-pub mod Early
 pub mod Limits
 pub mod Leaves
 pub mod Rows

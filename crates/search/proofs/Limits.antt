@@ -15,8 +15,8 @@ use Rattle.model.specs.Walk.{anyOf}
 use Rattle.model.proofs.Lists.{any-upFrom}
 use Rattle.metric.specs.Parts.{bitOf, filled}
 use Rattle.metric.proofs.Filled.{filled-at, filled-length}
-use Rattle.search.specs.Program.{Taken, opens, reachOf, reaches, lets, passing, beyond}
-use Rattle.search.proofs.Steps.{anyFrom}
+use Rattle.pruning.specs.Program.{Taken, opens, reachOf, reaches, lets, passing, beyond}
+use Rattle.pruning.proofs.Steps.{anyFrom}
 use Rattle.search.specs.Limits.{upOf, limitAt, widestFrom, Limited, letsBy, passingBy}
 
 up-is : (d : ℕ) (z : ℤ) → ltZ (pos d) z ≡ ltb d (upOf z)

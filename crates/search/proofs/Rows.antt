@@ -15,7 +15,7 @@ use Rattle.metric.specs.Rows.{rowAt, childOf as rowKey, VectorAsked}
 use Rattle.metric.proofs.Rows.{row-in-range}
 use Rattle.metric.proofs.Link.{row-at}
 use Rattle.metric.proofs.Filled.{filled-same}
-use Rattle.search.specs.Program.{Ranged, noRow, chosen, keyOf}
+use Rattle.pruning.specs.Program.{Ranged, noRow, chosen, keyOf}
 use Rattle.search.specs.Limits.{vectorAt, SearchAsked}
 
 -- Rows are in range where each is

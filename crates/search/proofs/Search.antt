@@ -14,16 +14,16 @@ use Rattle.block.proofs.Places.{rows-count}
 use Rattle.metric.specs.Parts.{filled}
 use Rattle.metric.proofs.Filled.{filled-length}
 use Rattle.metric.specs.Rows.{childOf as rowKey}
-use Rattle.search.specs.Arrays.{leastFirst}
-use Rattle.search.specs.Program.{above, largestPartial, Ranged, Taken, Kept, keptOf, passing, beyond, noted, childOf, below, restOf}
+use Rattle.pruning.specs.Arrays.{leastFirst}
+use Rattle.pruning.specs.Program.{above, largestPartial, Ranged, Taken, Kept, keptOf, passing, beyond, noted, childOf, below, restOf}
 use Rattle.search.specs.Limits.{vectorAt, Limited, NextChild, WalkAsked, verdictOf, verdictBy}
 use Rattle.search.specs.declared.Verdict.{Verdict}
 use Rattle.search.specs.declared.Verdict.the-variants.{Ended, Cut, Enter, Stop}
-use Rattle.search.proofs.Arrays.{Held, held-least, held-set, held-same, same-front}
-use Rattle.search.proofs.Answer.{part-few, few-children}
-use Rattle.search.proofs.Bounds.{kept-falls, chosen-by, symbol-inside, keys-held, partial-low, child-placed, child-by}
-use Rattle.search.proofs.Turns.{rest-start, rest-same, rest-done, rest-cut, rest-halted, rest-stopped, rest-onward}
-use Rattle.search.proofs.Early.{rest-beyond}
+use Rattle.pruning.proofs.Arrays.{Held, held-least, held-set, held-same, same-front}
+use Rattle.pruning.proofs.Answer.{part-few, few-children}
+use Rattle.pruning.proofs.Bounds.{kept-falls, chosen-by, symbol-inside, keys-held, partial-low, child-placed, child-by}
+use Rattle.pruning.proofs.Turns.{rest-start, rest-same, rest-done, rest-cut, rest-halted, rest-stopped, rest-onward}
+use Rattle.pruning.proofs.Early.{rest-beyond}
 use Rattle.search.proofs.Rows.{ranged, keys-by}
 use Rattle.search.proofs.Verdicts.{verdict-by, Says, says}
 

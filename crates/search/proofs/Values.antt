@@ -15,12 +15,12 @@ use Rattle.block.proofs.Places.{rows-count, all-priors-at}
 use Rattle.metric.specs.Rows.{VectorAsked}
 use Rattle.metric.specs.Parts.{filled}
 use Rattle.metric.proofs.Filled.{filled-length, filled-more, filled-same}
-use Rattle.search.specs.Program.{above, sideOf, Taken, takenOf, takenIn, limitsOf, keptOf, fresh, chosen, below, valueOf, answerOf}
+use Rattle.pruning.specs.Program.{above, sideOf, Taken, takenOf, takenIn, limitsOf, keptOf, fresh, chosen, below, valueOf, answerOf}
 use Rattle.search.specs.Limits.{vectorAt, SearchAsked, limitAt, widestFrom, WalkAsked}
 use Rattle.search.specs.Values.{MinimaLow, Answered}
-use Rattle.search.proofs.Answer.{answered, soft-is}
-use Rattle.search.proofs.Bounds.{minima-low}
-use Rattle.search.proofs.Minima.{taken-kept, limits-are, limits-whole}
+use Rattle.pruning.proofs.Answer.{answered, soft-is}
+use Rattle.pruning.proofs.Bounds.{minima-low}
+use Rattle.pruning.proofs.Minima.{taken-kept, limits-are, limits-whole}
 use Rattle.search.proofs.Limits.{limited}
 use Rattle.search.proofs.Rows.{ranged}
 

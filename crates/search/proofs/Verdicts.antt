@@ -5,7 +5,7 @@ use mathlib.Core.Bool.{Bool, true, false, cond, not, _||_}
 use mathlib.Core.List.{List}
 use lib.Dec.{leb, ltb}
 use Rattle.model.specs.Metric.{Vector, labelBits}
-use Rattle.search.specs.Program.{Taken}
+use Rattle.pruning.specs.Program.{Taken}
 use Rattle.search.specs.Limits.{Limited, verdictOf, verdictBy}
 use Rattle.search.specs.declared.Verdict.{Verdict}
 use Rattle.search.specs.declared.Verdict.the-variants.{Ended, Cut, Enter, Stop}

@@ -13,9 +13,9 @@ use Rattle.model.specs.Block.{mostClip}
 use Rattle.block.specs.Contents.{rowsOf}
 use Rattle.metric.specs.Rows.{VectorAsked}
 use Rattle.metric.specs.Parts.{bitOf}
-use Rattle.search.specs.Arrays.{leastFirst}
+use Rattle.pruning.specs.Arrays.{leastFirst}
 use Rattle.search.specs.declared.Task.{Task}
-use Rattle.search.specs.Program.{above, largestPartial, Taken, opens, reachOf, passing, beyond, chosen}
+use Rattle.pruning.specs.Program.{above, largestPartial, Taken, opens, reachOf, passing, beyond, chosen}
 use Rattle.search.specs.declared.Verdict.{Verdict}
 use Rattle.search.specs.declared.Verdict.the-variants.{Ended, Cut, Enter, Stop}
 

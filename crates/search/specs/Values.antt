@@ -7,7 +7,7 @@ use lib.IntN.{ℤ}
 use lib.ListN.{getD, drop}
 use Rattle.model.specs.Metric.{Vector, labelBits}
 use Rattle.model.specs.Block.{answer}
-use Rattle.search.specs.Program.{above}
+use Rattle.pruning.specs.Program.{above}
 
 -- No minimum is above the sentinel
 pub record MinimaLow (zeros ones : List ℕ) : Type 0 where

@@ -15,8 +15,8 @@ ghost use Rattle.model.specs.Block.{mostClip};
 ghost use Rattle.metric.specs.Rows.{VectorAsked};
 ghost use Rattle.metric.specs.Tables.{Tabled};
 ghost use Rattle.metric.specs.Parts.{filled};
-ghost use Rattle.search.specs.Arrays.{leastFirst};
-ghost use Rattle.search.specs.Program.{above, sideOf, valueOf, takenIn, zerosOf, onesOf, limitsOf, keptOf, opens, reachOf, lowered, sooner, noted, below};
+ghost use Rattle.pruning.specs.Arrays.{leastFirst};
+ghost use Rattle.pruning.specs.Program.{above, sideOf, valueOf, takenIn, zerosOf, onesOf, limitsOf, keptOf, opens, reachOf, lowered, sooner, noted, below};
 ghost use Rattle.search.specs.Limits.{vectorFor, Asked, upOf, limitAt, widestFrom, Limited, letsBy, passingBy, verdictBy, WalkAsked, NextChild};
 ghost use Rattle.search.specs.Values.{MinimaLow, Answered};
 

@@ -10,11 +10,11 @@ use borrow.Fn.PlainCycle.{Measures, is, falls, and}
 use native.Mathlib.Nat.{le-refl}
 use lib.ListN.{length}
 use borrow.Rule.Slice.PartMut.{same-len-mid}
-use Rattle.search.proofs.Arrays.{part-length}
+use Rattle.pruning.proofs.Arrays.{part-length}
 use Rattle.metric.proofs.Filled.{filled-length}
 use Rattle.metric.proofs.Shifts.{one-shifted}
-use Rattle.search.specs.Program.{takenIn, limitsOf, keptOf}
-use Rattle.search.proofs.Minima.{limits-part, limits-length}
+use Rattle.pruning.specs.Program.{takenIn, limitsOf, keptOf}
+use Rattle.pruning.proofs.Minima.{limits-part, limits-length}
 use Rattle.search.proofs.Search.{Searching, bits-few, partial-few, leaf-noted, kids-few, keys-room, keys-left, free-few, next-length, chosen-few}
 use Rattle.search.proofs.Search.{node-placed, start, done}
 use Rattle.search.proofs.Search.{Turn, turn-of, child-asked, ended, halts, cut, counts, stops, onward}

@@ -2,8 +2,8 @@
 use mathlib.Core.Path.{_≡_, sym, _∙_}
 use mathlib.Core.Bool.{true, false}
 use borrow.Author.Needs.{needs}
-use Rattle.search.specs.Program.{sooner}
-use Rattle.search.proofs.Agree.{sooner-min}
+use Rattle.pruning.specs.Program.{sooner}
+use Rattle.pruning.proofs.Agree.{sooner-min}
 use Rattle.search.proofs.better.Statement.{statement}
 use Rattle.search.proofs.better.Tie as tie
 

@@ -2,7 +2,7 @@ use mathlib.Core.Path.{ap₂}
 use mathlib.Core.Bool.{Bool, not, Bool·beq}
 use borrow.Author.Needs.{needs}
 use borrow.Author.Tests.{lt-ltb, le-ltb}
-use Rattle.search.specs.Program.{opens}
+use Rattle.pruning.specs.Program.{opens}
 use Rattle.search.proofs.is_open.Statement.{statement}
 use Rattle.search.proofs.is_open.Tie as tie
 

@@ -6,8 +6,8 @@ use native.Mathlib.Omega.{arith}
 use native.Mathlib.Nat.{le-refl}
 use lib.ListN.{getD}
 use borrow.Author.Tests.{le-ltb}
-use Rattle.search.specs.Arrays.{smallerAt, leastFirst}
-use Rattle.search.proofs.Arrays.{least-take, least-keep}
+use Rattle.pruning.specs.Arrays.{smallerAt, leastFirst}
+use Rattle.pruning.proofs.Arrays.{least-take, least-keep}
 use Rattle.search.proofs.least_first.Statement.{statement}
 use Rattle.search.proofs.least_first.Tie as tie
 

@@ -6,9 +6,9 @@ use native.Mathlib.Omega.{arith}
 use lib.ListN.{length, set, take, take-append-drop, length-drop}
 use Rattle.metric.specs.Parts.{filled}
 use Rattle.metric.proofs.Filled.{filled-more, filled-length}
-use Rattle.search.specs.Program.{Taken, takenIn, limitsOf}
+use Rattle.pruning.specs.Program.{Taken, takenIn, limitsOf}
 use Rattle.search.specs.Limits.{vectorFor, limitAt}
-use Rattle.search.proofs.Minima.{taken-kept, limits-whole, limit-set}
+use Rattle.pruning.proofs.Minima.{taken-kept, limits-whole, limit-set}
 use Rattle.search.proofs.Values.{few}
 use Rattle.search.proofs.limit_all.Statement.{statement}
 use Rattle.search.proofs.limit_all.Tie as tie

@@ -13,7 +13,7 @@ use mir.Facts.{toZ-ofZ}
 use Rattle.model.specs.Metric.{Vector, labelBits, priorAt}
 use Rattle.block.proofs.Places.{all-priors-at, rows-count}
 use Rattle.metric.specs.Parts.{bitOf}
-use Rattle.search.specs.Program.{Taken, takenIn, reachOf}
+use Rattle.pruning.specs.Program.{Taken, takenIn, reachOf}
 use Rattle.search.specs.Limits.{vectorAt, upOf, limitAt}
 use Rattle.search.proofs.limit_at.Statement.{statement}
 use Rattle.search.proofs.limit_at.Tie as tie

@@ -7,8 +7,8 @@ use native.Mathlib.Omega.{arith}
 use lib.ListN.{getD, set}
 use lib.Pow.{pow-pos, pow-mono}
 use Rattle.metric.proofs.Shifts.{one-shifted}
-use Rattle.search.specs.Arrays.{leastFirst}
-use Rattle.search.specs.Program.{above}
+use Rattle.pruning.specs.Arrays.{leastFirst}
+use Rattle.pruning.specs.Program.{above}
 use Rattle.search.specs.Limits.{NextChild}
 use Rattle.search.proofs.next_child.Statement.{statement}
 use Rattle.search.proofs.next_child.Tie as tie

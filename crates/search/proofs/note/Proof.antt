@@ -7,8 +7,8 @@ use native.Mathlib.Omega.{arith}
 use lib.ListN.{length}
 use Rattle.metric.specs.Parts.{filled}
 use Rattle.metric.proofs.Filled.{filled-length}
-use Rattle.search.specs.Program.{loweredAt}
-use Rattle.search.proofs.Steps.{lowered-hit, lowered-miss}
+use Rattle.pruning.specs.Program.{loweredAt}
+use Rattle.pruning.proofs.Steps.{lowered-hit, lowered-miss}
 use Rattle.search.proofs.note.Statement.{statement}
 use Rattle.search.proofs.note.Tie as tie
 

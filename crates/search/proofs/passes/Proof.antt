@@ -3,7 +3,7 @@ use mathlib.Core.Path.{_≡_, sym, _∙_}
 use Prim.Native.Nat.{_≤_, _-_}
 use native.Mathlib.Omega.{arith}
 use Rattle.search.specs.Limits.{letsBy, passingBy}
-use Rattle.search.proofs.Steps.{anyFrom, any-hit, any-miss, any-done}
+use Rattle.pruning.proofs.Steps.{anyFrom, any-hit, any-miss, any-done}
 use Rattle.search.proofs.Limits.{passing-low, passing-start}
 use Rattle.search.proofs.passes.Statement.{statement}
 use Rattle.search.proofs.passes.Tie as tie

@@ -8,7 +8,7 @@ use mir.Val.{SFits}
 use mir.Facts.{toZ-ofZ, toZ-pos}
 use Rattle.integers.proofs.Fits.{sfits-abs}
 use Rattle.integers.proofs.Magnitudes.{natAbs-sub, natAbs-add}
-use Rattle.search.specs.Program.{reachOf}
+use Rattle.pruning.specs.Program.{reachOf}
 use Rattle.search.proofs.reach.Statement.{statement}
 use Rattle.search.proofs.reach.Tie as tie
 

@@ -6,9 +6,9 @@ use borrow.Author.Needs.{needs}
 use mathlib.Core.Bool.{false}
 use mathlib.Core.List.{List}
 use lib.ListN.{length, take, drop}
-use Rattle.search.specs.Program.{Taken, keptOf, takenIn, fresh, below}
+use Rattle.pruning.specs.Program.{Taken, keptOf, takenIn, fresh, below}
 use Rattle.search.specs.Limits.{vectorFor, widestFrom}
-use Rattle.search.proofs.Minima.{limits-front, limits-length}
+use Rattle.pruning.proofs.Minima.{limits-front, limits-length}
 use Rattle.search.proofs.Values.{few, keys-many, root-fresh, root-whole, root-asked, end-low, end-answered}
 use Rattle.search.proofs.search_vector.Statement.{statement}
 use Rattle.search.proofs.search_vector.Tie as tie

@@ -10,7 +10,7 @@ use mir.Val.{SFits}
 use mir.Facts.{toZ-ofZ, toZ-pos}
 use Rattle.integers.proofs.Fits.{sfits-abs, zero-sub, negation-fits}
 use Rattle.integers.proofs.Magnitudes.{natAbs-sub}
-use Rattle.search.specs.Program.{sideOf}
+use Rattle.pruning.specs.Program.{sideOf}
 use Rattle.search.proofs.soft_value.Statement.{statement}
 use Rattle.search.proofs.soft_value.Tie as tie
 

@@ -5,10 +5,10 @@ use borrow.Author.Needs.{needs}
 use native.Mathlib.Omega.{arith}
 use lib.ListN.{length}
 use Rattle.model.specs.Metric.{Vector, labelBits}
-use Rattle.search.specs.Program.{keptOf, takenIn}
+use Rattle.pruning.specs.Program.{keptOf, takenIn}
 use Rattle.search.specs.Limits.{vectorFor}
 use Rattle.search.proofs.Leaves.{front-whole, behind-whole, ones-behind, sides-whole, after-whole, leaf-noted, leaf-limited}
-use Rattle.search.proofs.Minima.{limits-part, limits-length}
+use Rattle.pruning.proofs.Minima.{limits-part, limits-length}
 use Rattle.search.proofs.Values.{few, bits-are}
 use Rattle.search.proofs.take_leaf.Statement.{statement}
 use Rattle.search.proofs.take_leaf.Tie as tie

@@ -8,9 +8,9 @@ use mir.Syntax.{w32, w64}
 use mir.Val.{SFits}
 use mir.Facts.{toZ-ofZ}
 use Rattle.metric.specs.Parts.{filled}
-use Rattle.search.specs.Program.{takenIn, zerosOf, onesOf, valueOf}
+use Rattle.pruning.specs.Program.{takenIn, zerosOf, onesOf, valueOf}
 use Rattle.search.specs.Limits.{vectorFor}
-use Rattle.search.proofs.Minima.{zero-at, one-at}
+use Rattle.pruning.proofs.Minima.{zero-at, one-at}
 use Rattle.search.proofs.Values.{few, prior-small, write-more, soft-by}
 use Rattle.search.proofs.write_soft.Statement.{statement}
 use Rattle.search.proofs.write_soft.Tie as tie

@@ -16,11 +16,11 @@ use Rattle.model.specs.Search.{Search, start, admits, enter, stop, attempt, sea
 use Rattle.model.proofs.Lists.{length-upFrom, getD-places}
 use Rattle.model.proofs.Numbers.{number-append, number-bitsOf, bitsOf-number, length-bitsOf}
 use Rattle.model.proofs.Tree.{children-count}
-use Rattle.search.specs.Arrays.{leastFirst}
-use Rattle.search.specs.Program.{above, Taken, Kept, keptOf, fresh, passing}
-use Rattle.search.specs.Program.{noRow, chosen, keyOf, childOf, keysOf, onward, siblings, testOf, below}
-use Rattle.search.proofs.Order.{child, Remaining, Next, begin, next}
-use Rattle.search.proofs.Agree.{Agrees, passing-is, entered, noted-is, stopped-is, fresh-is}
+use Rattle.pruning.specs.Arrays.{leastFirst}
+use Rattle.pruning.specs.Program.{above, Taken, Kept, keptOf, fresh, passing}
+use Rattle.pruning.specs.Program.{noRow, chosen, keyOf, childOf, keysOf, onward, siblings, testOf, below}
+use Rattle.pruning.proofs.Order.{child, Remaining, Next, begin, next}
+use Rattle.pruning.proofs.Agree.{Agrees, passing-is, entered, noted-is, stopped-is, fresh-is}
 
 -- The row after those to come
 getD-reverseAux : {A : Type 0} (todo done : List A) (i : ℕ) (z : A) → getD (reverseAux todo done) (length todo + i) z ≡ getD done i z

@@ -16,7 +16,7 @@ use lib.Seq.{getD-set-same, getD-set-other, take-suc-set, drop-set-lt, getD-take
 use Rattle.model.specs.Soft.{upFrom}
 use Rattle.metric.specs.Parts.{filled}
 use Rattle.metric.proofs.Filled.{filled-length}
-use Rattle.search.specs.Arrays.{smallerAt, leastFirst}
+use Rattle.pruning.specs.Arrays.{smallerAt, leastFirst}
 
 last-or-not : {i n : ℕ} → i < suc n → (i ≡ n) ⊎ (i < n)
 last-or-not h = eq-or-lt-of-le (le-of-suc-le-suc h)

@@ -14,7 +14,7 @@ use Rattle.model.specs.Walk.{anyOf}
 use Rattle.model.specs.Block.{Answer, RowsInRange, mostStreams, mostWidth}
 use Rattle.model.proofs.Bounds.{largestMetric}
 use Rattle.metric.specs.Parts.{bitOf, filled}
-use Rattle.search.specs.Arrays.{leastFirst}
+use Rattle.pruning.specs.Arrays.{leastFirst}
 
 -- The most bits that a label has, and the most children of a node: the lengths of arrays
 abbrev pub mostBits : ℕ

@@ -16,13 +16,13 @@ use Rattle.model.specs.Metric.{Row, Vector, labelBits}
 use Rattle.model.specs.Block.{RowInRange, RowsInRange}
 use Rattle.model.proofs.Bounds.{largestMetric, increment-bound}
 use Rattle.metric.specs.Parts.{filled}
-use Rattle.search.specs.Arrays.{leastFirst}
+use Rattle.pruning.specs.Arrays.{leastFirst}
 use Rattle.metric.specs.Parts.{bitOf}
-use Rattle.search.specs.Program.{above, largestPartial, Ranged, Taken, Kept, keptOf, fresh, loweredAt, lowered, noted}
-use Rattle.search.specs.Program.{noRow, chosen, keyOf, childOf, keysOf, onward, siblings, testOf, below}
+use Rattle.pruning.specs.Program.{above, largestPartial, Ranged, Taken, Kept, keptOf, fresh, loweredAt, lowered, noted}
+use Rattle.pruning.specs.Program.{noRow, chosen, keyOf, childOf, keysOf, onward, siblings, testOf, below}
 use Rattle.metric.proofs.Filled.{filled-at}
-use Rattle.search.proofs.Arrays.{least-below, set-each, Held, held-start}
-use Rattle.search.proofs.Answer.{largest-low}
+use Rattle.pruning.proofs.Arrays.{least-below, set-each, Held, held-start}
+use Rattle.pruning.proofs.Answer.{largest-low}
 
 -- B and each minimum are at most what they were
 pub record Falls (t u : Taken) : Type 0 where

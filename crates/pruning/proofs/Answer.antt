@@ -18,11 +18,11 @@ use Rattle.model.proofs.Lists.{map-upFrom}
 use Rattle.model.proofs.Search.{outcome-is}
 use Rattle.model.proofs.Bounds.{metric-bound, largestMetric, largest-rises, metric-largest}
 use Rattle.metric.specs.Parts.{filled}
-use Rattle.search.specs.Program.{above, mostBits, mostChildren, Ranged}
-use Rattle.search.specs.Program.{Taken, Kept, keptOf, fresh, below, valueOf, answerOf, replied}
-use Rattle.search.proofs.Arrays.{filled-is}
-use Rattle.search.proofs.Agree.{Agrees}
-use Rattle.search.proofs.Below.{search-agrees}
+use Rattle.pruning.specs.Program.{above, mostBits, mostChildren, Ranged}
+use Rattle.pruning.specs.Program.{Taken, Kept, keptOf, fresh, below, valueOf, answerOf, replied}
+use Rattle.pruning.proofs.Arrays.{filled-is}
+use Rattle.pruning.proofs.Agree.{Agrees}
+use Rattle.pruning.proofs.Below.{search-agrees}
 
 -- The largest metric of so many rows is below the sentinel
 pub largest-low : (q m : ℕ) → q ≤ mostWidth → m ≤ mostStreams → largestMetric q m < above

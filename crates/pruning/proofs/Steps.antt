@@ -13,7 +13,7 @@ use Rattle.model.specs.Soft.{upFrom}
 use Rattle.model.specs.Walk.{anyOf}
 use Rattle.metric.specs.Parts.{filled}
 use Rattle.metric.specs.Parts.{bitOf}
-use Rattle.search.specs.Program.{loweredAt}
+use Rattle.pruning.specs.Program.{loweredAt}
 use Rattle.metric.proofs.Filled.{filled-more, filled-rest}
 
 -- The test of the bits from i on, of n bits

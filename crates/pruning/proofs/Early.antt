@@ -15,11 +15,11 @@ use Rattle.model.specs.Metric.{Vector, labelBits, priorAt}
 use Rattle.model.specs.Soft.{upFrom}
 use Rattle.model.specs.Walk.{anyOf}
 use Rattle.model.proofs.Lists.{or-left, or-right, any-false, in-upFrom}
-use Rattle.search.specs.Arrays.{leastFirst}
+use Rattle.pruning.specs.Arrays.{leastFirst}
 use Rattle.metric.specs.Parts.{bitOf}
-use Rattle.search.specs.Program.{above, Taken, Kept, opens, reachOf, reaches, lets, passing, beyond}
-use Rattle.search.specs.Program.{childOf, siblings, testOf, below, restOf}
-use Rattle.search.proofs.Arrays.{least-below, least-le, set-each}
+use Rattle.pruning.specs.Program.{above, Taken, Kept, opens, reachOf, reaches, lets, passing, beyond}
+use Rattle.pruning.specs.Program.{childOf, siblings, testOf, below, restOf}
+use Rattle.pruning.proofs.Arrays.{least-below, least-le, set-each}
 
 -- A test that fails at d fails at each larger e
 and-falls : (a b c d : Bool) → (c ≡ true → a ≡ true) → (d ≡ true → b ≡ true) → (a && b) ≡ false → (c && d) ≡ false

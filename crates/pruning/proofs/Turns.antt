@@ -13,11 +13,11 @@ use lib.Pow.{pow-pos}
 use Rattle.model.specs.Metric.{Vector}
 use Rattle.model.proofs.Lists.{length-upFrom, getD-places}
 use Rattle.metric.specs.Parts.{filled}
-use Rattle.search.specs.Arrays.{leastFirst}
-use Rattle.search.specs.Program.{above, Taken, Kept, keptOf, passing}
-use Rattle.search.specs.Program.{keyOf, childOf, keysOf, onward, siblings, testOf, below, restOf}
+use Rattle.pruning.specs.Arrays.{leastFirst}
+use Rattle.pruning.specs.Program.{above, Taken, Kept, keptOf, passing}
+use Rattle.pruning.specs.Program.{keyOf, childOf, keysOf, onward, siblings, testOf, below, restOf}
 use Rattle.metric.proofs.Filled.{filled-at, filled-length}
-use Rattle.search.proofs.Arrays.{least-below, Same, least-same, same-set}
+use Rattle.pruning.proofs.Arrays.{least-below, Same, least-same, same-set}
 
 -- Only the first n keys decide
 module _ (test : ℕ → ℕ → Taken → Bool) (sub : ℕ → ℕ → Kept → Kept) (n allowance : ℕ) (some : 0 < n) where

@@ -5,7 +5,7 @@ use mathlib.Core.List.{List, [], _∷_, _++_}
 use native.Mathlib.Omega.{arith}
 use lib.ListN.{length, getD, set, take, drop, length-append, length-drop}
 use lib.Seq.{getD-take, getD-drop, take-take, take-append-le, drop-append-le, drop-at, length-take-le, take-add, take-all}
-use Rattle.search.specs.Program.{takenOf, takenIn, zerosOf, onesOf, limitsOf}
+use Rattle.pruning.specs.Program.{takenOf, takenIn, zerosOf, onesOf, limitsOf}
 
 -- The least metric with a bit 0, and with it 1
 pub zero-at : (minima : List ℕ) (i : ℕ) → i < 24 → getD minima i 0 ≡ getD (zerosOf minima) i 0

@@ -19,9 +19,9 @@ use Rattle.model.proofs.Ranks.{AtOrBefore, order-refl, earlier-true}
 use Rattle.model.proofs.Numbers.{number-below, number-bitsOf, bitsOf-number, length-bitsOf}
 use Rattle.model.proofs.Tree.{children-of, children-in, once-children}
 use Rattle.model.proofs.Order.{Rising, children-rise, sibling-order}
-use Rattle.search.specs.Arrays.{leastFirst}
-use Rattle.search.specs.Program.{above}
-use Rattle.search.proofs.Arrays.{least-below, least-le, least-first}
+use Rattle.pruning.specs.Arrays.{leastFirst}
+use Rattle.pruning.specs.Program.{above}
+use Rattle.pruning.proofs.Arrays.{least-below, least-le, least-first}
 
 -- A key with its place
 abbrev placed : List ℕ → ℕ → List ℕ

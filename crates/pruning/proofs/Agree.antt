@@ -18,9 +18,9 @@ use Rattle.model.specs.Walk.{clipLimit, smaller, limit, isOpen, passes}
 use Rattle.model.specs.Search.{Search, start, oppositeOf, admits, bestAfter, updated, enter, stop}
 use Rattle.model.proofs.Lists.{any-upFrom, getD-places}
 use Rattle.model.proofs.Numbers.{bit-of-number}
-use Rattle.search.specs.Program.{above, sideOf, Taken, Kept, takenOf, keptOf, fresh}
+use Rattle.pruning.specs.Program.{above, sideOf, Taken, Kept, takenOf, keptOf, fresh}
 use Rattle.metric.specs.Parts.{bitOf}
-use Rattle.search.specs.Program.{opens, reachOf, reaches, lets, passing, loweredAt, lowered, sooner, noted}
+use Rattle.pruning.specs.Program.{opens, reachOf, reaches, lets, passing, loweredAt, lowered, sooner, noted}
 use Rattle.metric.proofs.Filled.{filled-at, filled-length}
 
 -- d is below a least metric
