@@ -4,7 +4,7 @@ use mathlib.Core.Path.{_≡_, refl, sym, _∙_, ap, ap₂, subst}
 use mathlib.Core.Logic.{⊎-elim}
 use mathlib.Core.List.{List}
 use native.Mathlib.Nat.{add-suc, eq-or-lt-of-le, le-of-suc-le-suc, not-suc-le-zero, ne-of-lt, ne-of-gt}
-use native.Mathlib.Decide.{decLt}
+use native.Mathlib.Decide.{ℕ-discrete}
 use native.Mathlib.Numerals.{add-one}
 use native.Mathlib.Omega.{arith}
 use lib.ListN.{length, getD, set, length-set}
@@ -45,15 +45,6 @@ module _ {A : Type 0} where
   filled-same f g (suc n) l h =
       ap₂ (λ (x : List A) (v : A). set x n v) (filled-same f g n l (λ i k. h i (omega arith))) (h n (omega arith))
 
-  -- What every value of the rule and every old entry has, every entry has
-  pub filled-all : (P : A → Type 0) (f : ℕ → A) (k : ℕ) (l : List A) (d : A) → k ≤ length l
-      → ((i : ℕ) → P (f i)) → ((i : ℕ) → P (getD l i d)) → (i : ℕ) → P (getD (filled f k l) i d)
-  filled-all P f k l d room new old i = go (decLt i k)
-    where
-      go : Dec (i < k) → P (getD (filled f k l) i d)
-      go (yes h) = subst P (sym (filled-at f k l i d h room)) (new i)
-      go (no h) = subst P (sym (filled-rest f k l i d (omega arith))) (old i)
-
   -- From a place on, one place more
   pub from-more : (at : ℕ) (f : ℕ → A) (k : ℕ) (l : List A) → set (filledFrom at f k l) (at + k) (f k) ≡ filledFrom at f (k + 1) l
   unfolding filledFrom
@@ -82,6 +73,19 @@ module _ {A : Type 0} where
       (λ (lt : i < k).
       getD-set-other (filledFrom at f k l) (at + k) (at + i) (f k) d (ne-of-lt (omega arith)) ∙ from-at at f k l i d lt (omega arith))
       (eq-or-lt-of-le (le-of-suc-le-suc h))
+
+  -- What every value that is filled in and every old entry has, every entry has
+  pub from-all : (P : A → Type 0) (at : ℕ) (f : ℕ → A) (k : ℕ) (l : List A) (d : A) → at + k ≤ length l
+      → ((i : ℕ) → i < k → P (f i)) → ((i : ℕ) → P (getD l i d)) → (i : ℕ) → P (getD (filledFrom at f k l) i d)
+  unfolding filledFrom
+  from-all P at f zero l d room new old i = old i
+  from-all P at f (suc k) l d room new old i =
+      go (from-all P at f k l d (omega arith) (λ j h. new j (omega arith)) old i) (ℕ-discrete i (at + k))
+    where
+      go : P (getD (filledFrom at f k l) i d) → Dec (i ≡ at + k) → P (getD (set (filledFrom at f k l) (at + k) (f k)) i d)
+      go h (yes e) =
+          rw (e, getD-set-same (filledFrom at f k l) (at + k) (f k) d (omega (arith, from-length at f k l))) (new k (omega arith))
+      go h (no n) = subst P (sym (getD-set-other (filledFrom at f k l) (at + k) i (f k) d n)) h
 
   -- The places after the first ones, which are filled: together they are the first ones of more
   pub from-join : (at : ℕ) (f g : ℕ → A) (k : ℕ) (l : List A) → ((i : ℕ) → i < k → f i ≡ g (at + i))

@@ -4,9 +4,8 @@ use mathlib.Core.Path.{_≡_, _∙_, ap}
 use mathlib.Core.List.{List}
 use native.Mathlib.Nat.{le-refl, mul-le-mul, suc-mul, mul-add-div-right, div-eq-of-lt, mul-add-mod-self-right, mod-eq-of-lt}
 use native.Mathlib.Omega.{arith}
-use lib.ListN.{getD}
 use lib.Pow.{pow-add, pow-pos}
-use Rattle.metric.specs.Parts.{childMetric, rowMetric, filled, filledFrom}
+use Rattle.metric.specs.Parts.{realIn, imaginaryIn, childMetric, rowMetric, filled, filledFrom}
 use Rattle.metric.proofs.Filled.{from-join}
 
 -- As many rows as the real axis has labels are all children
@@ -16,12 +15,12 @@ rows-all q = let e : q - q / 2 + q / 2 ≡ q = omega arith in rw (← pow-add 2 
 pub row-room : (q a : ℕ) → a < 2 ^ (q - q / 2) → a * 2 ^ (q / 2) + 2 ^ (q / 2) ≤ 2 ^ q
 row-room q a h = omega (arith, rows-all q, mul-le-mul h (le-refl (2 ^ (q / 2))), suc-mul a (2 ^ (q / 2)))
 
-module _ (q partial : ℕ) (re im : List ℕ) where
+module _ (q partial : ℕ) (axes : List ℕ) where
   abbrev pub childrenOf : ℕ → ℕ
-  childrenOf = childMetric q partial (λ a. getD re a 0) (λ b. getD im b 0)
+  childrenOf = childMetric q partial (realIn axes) (imaginaryIn axes)
 
   -- A row's places are its children's
-  row-at : (a b : ℕ) → b < 2 ^ (q / 2) → rowMetric (partial + getD re a 0) im b ≡ childrenOf (a * 2 ^ (q / 2) + b)
+  pub row-at : (a b : ℕ) → b < 2 ^ (q / 2) → rowMetric (partial + realIn axes a) axes b ≡ childrenOf (a * 2 ^ (q / 2) + b)
   unfolding rowMetric childMetric
   row-at a b h =
       let d : (a * 2 ^ (q / 2) + b) / 2 ^ (q / 2) ≡ a = omega (arith, mul-add-div-right (pow-pos (q / 2)) a b, div-eq-of-lt h) in
@@ -29,7 +28,7 @@ module _ (q partial : ℕ) (re im : List ℕ) where
       rw (d, r) (omega arith)
 
   row-next : (a : ℕ) (keys : List ℕ)
-      → filledFrom (a * 2 ^ (q / 2)) (rowMetric (partial + getD re a 0) im) (2 ^ (q / 2)) (filled childrenOf (a * 2 ^ (q / 2)) keys)
+      → filledFrom (a * 2 ^ (q / 2)) (rowMetric (partial + realIn axes a) axes) (2 ^ (q / 2)) (filled childrenOf (a * 2 ^ (q / 2)) keys)
       ≡ filled childrenOf ((a + 1) * 2 ^ (q / 2)) keys
   row-next a keys =
       let e : a * 2 ^ (q / 2) + 2 ^ (q / 2) ≡ (a + 1) * 2 ^ (q / 2) = omega (arith, suc-mul a (2 ^ (q / 2))) in
@@ -37,6 +36,6 @@ module _ (q partial : ℕ) (re im : List ℕ) where
 
   -- One row more
   pub row-more : (a n : ℕ) (keys before after : List ℕ) → n ≡ 2 ^ (q / 2) → before ≡ filled childrenOf (a * n) keys
-      → after ≡ filledFrom (a * n) (rowMetric (partial + getD re a 0) im) n before → after ≡ filled childrenOf ((a + 1) * n) keys
+      → after ≡ filledFrom (a * n) (rowMetric (partial + realIn axes a) axes) n before → after ≡ filled childrenOf ((a + 1) * n) keys
   row-more a n keys before after e eb ea =
-      ea ∙ ap (filledFrom (a * n) (rowMetric (partial + getD re a 0) im) n) eb ∙ rw e (row-next a keys)
+      ea ∙ ap (filledFrom (a * n) (rowMetric (partial + realIn axes a) axes) n) eb ∙ rw e (row-next a keys)

@@ -44,9 +44,16 @@ axisPart left diagonal priors w g = axisDistance left diagonal w g + axisCost pr
 unfoldable pub childMetric : ℕ → ℕ → (ℕ → ℕ) → (ℕ → ℕ) → ℕ → ℕ
 childMetric q partial re im s = partial + (re (s / 2 ^ (q / 2)) + im (s % 2 ^ (q / 2)))
 
+-- The part of a real label, and of an imaginary one, in the array of both axes
+abbrev pub realIn : List ℕ → ℕ → ℕ
+realIn axes a = getD axes a 0
+
+abbrev pub imaginaryIn : List ℕ → ℕ → ℕ
+imaginaryIn axes b = getD axes (span + b) 0
+
 -- A child's partial metric from what its real label gives and its imaginary label's part
 unfoldable pub rowMetric : ℕ → List ℕ → ℕ → ℕ
-rowMetric base im b = base + getD im b 0
+rowMetric base axes b = base + imaginaryIn axes b
 
 -- A list with its first n places filled by a rule
 unfoldable pub filled : {A : Type 0} → (ℕ → A) → ℕ → List A → List A

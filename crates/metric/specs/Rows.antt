@@ -10,7 +10,7 @@ use Rattle.model.specs.Soft.{upFrom}
 use Rattle.model.specs.Block.{Within, mostStreams, mostWidth, mostEntry, mostReceived, mostPrior}
 use Rattle.block.specs.Reading.{vectorSize}
 use Rattle.block.specs.Contents.{complexAt}
-use Rattle.metric.specs.Parts.{span, part}
+use Rattle.metric.specs.Parts.{span, part, realIn, imaginaryIn, childMetric, AllSmall}
 
 -- Where row i's numbers of R begin, from 0: the rows before it have 2m - 1, 2m - 3, .. numbers
 abbrev pub rowStart : ℕ → ℕ → ℕ
@@ -48,6 +48,12 @@ pub record VectorAsked (m q : ℕ) (numbers : List ℤ) : Type 0 where
   pub positive : (i : ℕ) → i < m → 1 ≤ natAbs (getD numbers (rowStart m i) (pos 0))
   pub received : (i : ℕ) → i < 2 * m → Within mostReceived (getD numbers (m * m + i) (pos 0))
   pub priors : (i : ℕ) → i < m * q → Within mostPrior (getD numbers (m * m + 2 * m + i) (pos 0))
+
+-- An array has the parts of both axes at a node: whatever its partial metric d, they give each child's
+pub record Measured (m q : ℕ) (numbers : List ℤ) (i node : ℕ) (axes : List ℕ) : Type 0 where
+  pub size : length axes ≡ 2 * span
+  pub small : AllSmall axes
+  pub child : (d s : ℕ) → s < 2 ^ q → childOf m q numbers i node d s ≡ childMetric q d (realIn axes) (imaginaryIn axes) s
 
 -- The parts of two complex numbers, an entry of R and a point, that are multiplied
 pub record Factors (a b x y : ℤ) : Type 0 where

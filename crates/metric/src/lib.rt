@@ -1,6 +1,6 @@
 // The partial metrics of a node's children, measured by their two axes: an axis label's part of the squared distance and of the prior
-// cost is made once for a node and shared by a row or a column of the constellation; what of it depends on the vector alone is made once
-// for the vector, in a lent table.
+// cost is made once for a node, in a lent array of both axes, and shared by a row or a column of the constellation; what of it depends on
+// the vector alone is made once for the vector, in a lent table.
 ghost use mathlib.Core.Path.{_≡_};
 ghost use Prim.Native.Nat.{suc, _+_, _*_, _-_, _/_, _%_, _<_, _≤_, _^_};
 ghost use lib.IntN.{pos, natAbs, _+ℤ_, _-ℤ_, _*ℤ_};
@@ -10,8 +10,9 @@ ghost use Rattle.model.specs.Metric.{bitCost};
 ghost use Rattle.model.specs.Block.{mostWidth, mostEntry};
 ghost use Rattle.constellation.specs.Axis.{complexOf};
 ghost use Rattle.block.specs.Contents.{complexAt};
-ghost use Rattle.metric.specs.Parts.{axisWidth, span, part, bitOf, axisCost, childMetric, rowMetric, filled, filledFrom, AllSmall};
-ghost use Rattle.metric.specs.Rows.{rowAt, remainderOf, childOf, VectorAsked, Factors, TermAsked};
+ghost use Rattle.metric.specs.Parts.{axisWidth, span, part, bitOf, axisCost, realIn, imaginaryIn, childMetric, rowMetric};
+ghost use Rattle.metric.specs.Parts.{filled, filledFrom, AllSmall};
+ghost use Rattle.metric.specs.Rows.{rowAt, remainderOf, VectorAsked, Measured, Factors, TermAsked};
 ghost use Rattle.metric.specs.Tables.{tableSize, labelProduct, labelCost, entriesIn, tablePart, Tabled};
 ghost use Rattle.metric.specs.Tables.{AxisAsked, PriorsAsked, EntriesAsked};
 
@@ -20,6 +21,9 @@ const SPAN: usize = 8;
 
 // The places of a vector's table: for each axis of each row a span of products and one of prior costs.
 pub const TABLE: usize = 16 * SPAN;
+
+// The places of the parts of both axes at a node.
+pub const AXES: usize = 2 * SPAN;
 
 // M and Q of a vector.
 pub struct Shape {
@@ -146,43 +150,79 @@ fn axis_part(left: i64, product: i32, cost: i32) -> u64
     integers::square(less(left, product as i64)) + cost as u64
 }
 
-// The parts of an axis's labels.
-fn fill_axis(tables: &[i32; TABLE], at: usize, left: i64, w: usize, parts: &mut [u64; SPAN])
-    requires { ⌜ AxisAsked (now tables) at left w ⌝ }
-    ensures { λ _. ⌜ now (parts .exit) ≡ filled (tablePart (now (tables .entry)) at left) (2 ^ w) (now (parts .entry)) ⌝ }
+// The parts of an axis's labels, in the array of both axes from a place on.
+fn fill_labels(
+    tables: &[i32; TABLE],
+    at: usize,
+    left: i64,
+    w: usize,
+    to: usize,
+    axes: &mut [u64; AXES],
+)
+    requires { ⌜ AxisAsked (now tables) at left w × (to ≤ span) ⌝ }
+    ensures { λ _. ⌜ now (axes .exit) ≡ filledFrom to (tablePart (now (tables .entry)) at left) (2 ^ w) (now (axes .entry)) ⌝ }
 {
     let n: usize = 1 << w;
     let mut g = 0;
     while g < n {
-        parts[g] = axis_part(left, tables[at + g], tables[at + SPAN + g]);
+        axes[to + g] = axis_part(left, tables[at + g], tables[at + SPAN + g]);
         g += 1;
     }
 }
 
+// The same; an axis of 64-QAM has three bits, which the compiler is told here.
+fn fill_axis(
+    tables: &[i32; TABLE],
+    at: usize,
+    left: i64,
+    w: usize,
+    to: usize,
+    axes: &mut [u64; AXES],
+)
+    requires { ⌜ AxisAsked (now tables) at left w × (to ≤ span) ⌝ }
+    ensures { λ _. ⌜ now (axes .exit) ≡ filledFrom to (tablePart (now (tables .entry)) at left) (2 ^ w) (now (axes .entry)) ⌝ }
+{
+    if w == 3 {
+        return fill_labels(tables, at, left, 3, to, axes);
+    }
+    fill_labels(tables, at, left, w, to, axes)
+}
+
 // A row of the constellation, the n children with one real label, from a place of the keys on: `base` is what they share.
-fn fill_row(base: u64, im: &[u64; SPAN], n: usize, at: usize, keys: &mut [u64])
-    requires { ⌜ (base < 2 ^ 63) × AllSmall (now im) × (n ≤ span) × (at + n ≤ length (now keys)) ⌝ }
-    ensures { λ _. ⌜ now (keys .exit) ≡ filledFrom at (rowMetric base (now (im .entry))) n (now (keys .entry)) ⌝ }
+fn fill_columns(base: u64, axes: &[u64; AXES], n: usize, at: usize, keys: &mut [u64])
+    requires { ⌜ (base < 2 ^ 63) × AllSmall (now axes) × (n ≤ span) × (at + n ≤ length (now keys)) ⌝ }
+    ensures { λ _. ⌜ now (keys .exit) ≡ filledFrom at (rowMetric base (now (axes .entry))) n (now (keys .entry)) ⌝ }
 {
     let mut b = 0;
     while b < n {
-        keys[at + b] = base + im[b];
+        keys[at + b] = base + axes[SPAN + b];
         b += 1;
     }
 }
 
+// The same, with the eight columns of 64-QAM made known to the compiler.
+fn fill_row(base: u64, axes: &[u64; AXES], n: usize, at: usize, keys: &mut [u64])
+    requires { ⌜ (base < 2 ^ 63) × AllSmall (now axes) × (n ≤ span) × (at + n ≤ length (now keys)) ⌝ }
+    ensures { λ _. ⌜ now (keys .exit) ≡ filledFrom at (rowMetric base (now (axes .entry))) n (now (keys .entry)) ⌝ }
+{
+    if n == 8 {
+        return fill_columns(base, axes, 8, at, keys);
+    }
+    fill_columns(base, axes, n, at, keys)
+}
+
 // The children's partial metrics, row by row of the constellation, each place written once with its whole increment.
-fn fill_children(q: usize, partial: u64, re: &[u64; SPAN], im: &[u64; SPAN], keys: &mut [u64])
-    requires { ⌜ (q ≤ mostWidth) × (partial < 2 ^ 62) × AllSmall (now re) × AllSmall (now im) × (2 ^ q ≤ length (now keys)) ⌝ }
+pub fn fill_children(q: usize, partial: u64, axes: &[u64; AXES], keys: &mut [u64])
+    requires { ⌜ (q ≤ mostWidth) × (partial < 2 ^ 62) × (length (now axes) ≡ 2 * span) × AllSmall (now axes)
+        × (2 ^ q ≤ length (now keys)) ⌝ }
     ensures { λ _. ⌜ now (keys .exit)
-        ≡ filled (childMetric q partial (λ a. getD (now (re .entry)) a 0) (λ b. getD (now (im .entry)) b 0)) (2 ^ q)
-        (now (keys .entry)) ⌝ }
+        ≡ filled (childMetric q partial (realIn (now (axes .entry))) (imaginaryIn (now (axes .entry)))) (2 ^ q) (now (keys .entry)) ⌝ }
 {
     let rows: usize = 1 << (q - q / 2);
     let n: usize = 1 << (q / 2);
     let mut a = 0;
     while a < rows {
-        fill_row(partial + re[a], im, n, a * n, keys);
+        fill_row(partial + axes[a], axes, n, a * n, keys);
         a += 1;
     }
 }
@@ -196,7 +236,7 @@ fn element(numbers: &[i32], i: usize) -> i64
 }
 
 // The symbol of q bits of a node that has `place` bits after it.
-fn symbol_at(node: u32, q: usize, place: usize) -> usize
+pub fn symbol_at(node: u32, q: usize, place: usize) -> usize
     requires { ⌜ (q ≤ mostWidth) × (place < 64) ⌝ }
     ensures { λ r. ⌜ r ≡ node / 2 ^ place % 2 ^ q ⌝ }
 {
@@ -263,22 +303,23 @@ fn remainder(numbers: &[i32], m: usize, q: usize, level: usize, node: u32) -> co
     constellation::Point { re, im }
 }
 
-// The partial metrics of a node's children by rising symbol: the first 2^Q places of `keys`.
-pub fn children(shape: Shape, node: Node, numbers: &[i32], tables: &[i32; TABLE], keys: &mut [u64])
+// The parts of both axes at a node, in one array: those of the real labels, then, a span later, those of the imaginary ones.
+pub fn measure(
+    shape: Shape,
+    node: Node,
+    numbers: &[i32],
+    tables: &[i32; TABLE],
+    axes: &mut [u64; AXES],
+)
     requires { ⌜ VectorAsked (shape .streams) (shape .width) (now numbers)
         × Tabled (shape .streams) (shape .width) (now numbers) (now tables)
-        × (0 < node .level) × (node .level ≤ shape .streams) × (node .partial < 2 ^ 61) × (2 ^ shape .width ≤ length (now keys)) ⌝ }
-    ensures { λ _. ⌜ now (keys .exit)
-        ≡ filled (childOf (shape .streams) (shape .width) (now (numbers .entry)) (node .level - 1) (node .bits) (node .partial))
-        (2 ^ shape .width) (now (keys .entry)) ⌝ }
+        × (0 < node .level) × (node .level ≤ shape .streams) × (length (now axes) ≡ 2 * span) × AllSmall (now axes) ⌝ }
+    ensures { λ _. ⌜ Measured (shape .streams) (shape .width) (now (numbers .entry)) (node .level - 1) (node .bits) (now (axes .exit)) ⌝ }
 {
     let q = shape.width;
     let level = node.level - 1;
     let left = remainder(numbers, shape.streams, q, level, node.bits);
     let at = level * (4 * SPAN);
-    let mut re = [0u64; SPAN];
-    let mut im = [0u64; SPAN];
-    fill_axis(tables, at, left.re, q - q / 2, &mut re);
-    fill_axis(tables, at + 2 * SPAN, left.im, q / 2, &mut im);
-    fill_children(q, node.partial, &re, &im, keys);
+    fill_axis(tables, at, left.re, q - q / 2, 0, axes);
+    fill_axis(tables, at + 2 * SPAN, left.im, q / 2, SPAN, axes);
 }

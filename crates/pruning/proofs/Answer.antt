@@ -1,10 +1,9 @@
 -- What the program answers is document 01's answer: the searches agree (Below), and so do the answers that are read off them. A vector
 -- in range has metrics below the sentinel; the room for the minima is any that holds the label's bits.
-use Prim.Native.Nat.{ℕ, _*_, _^_, _≤_, _<_}
+use Prim.Native.Nat.{ℕ, _^_, _≤_, _<_}
 use mathlib.Core.Path.{_≡_, sym, _∙_, ap, ap₂, subst}
 use mathlib.Core.Bool.{Bool}
 use mathlib.Core.List.{List, [], _∷_, _++_, map, reverseAux}
-use native.Mathlib.Nat.{le-trans, mul-le-mul}
 use native.Mathlib.Omega.{arith}
 use lib.IntN.{ℤ}
 use lib.ListN.{length, drop, length-reverseAux}
@@ -18,7 +17,7 @@ use Rattle.model.proofs.Lists.{map-upFrom}
 use Rattle.model.proofs.Search.{outcome-is}
 use Rattle.model.proofs.Bounds.{metric-bound, largestMetric, largest-rises, metric-largest}
 use Rattle.metric.specs.Parts.{filled}
-use Rattle.pruning.specs.Program.{above, mostBits, mostChildren, Ranged}
+use Rattle.pruning.specs.Program.{above, mostChildren, Ranged}
 use Rattle.pruning.specs.Program.{Taken, Kept, keptOf, fresh, below, valueOf, answerOf, replied}
 use Rattle.pruning.proofs.Arrays.{filled-is}
 use Rattle.pruning.proofs.Agree.{Agrees}
@@ -43,10 +42,6 @@ last-rows q [] done h = h
 last-rows q (r ∷ todo) done h = last-rows q todo (r ∷ done) h .1
 
 module _ (v : Vector) (r : Ranged v) where
-  -- Some of the streams have at most 24 bits
-  pub part-few : (m : ℕ) → m ≤ length (v .rows) → m * v .width ≤ mostBits
-  part-few m h = omega (arith, mul-le-mul (le-trans h (r .streams)) (r .bits))
-
   -- A node has at most 64 children
   pub few-children : 2 ^ v .width ≤ mostChildren
   few-children = pow-mono (r .bits)

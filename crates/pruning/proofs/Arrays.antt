@@ -219,12 +219,12 @@ held-same {top} {n} {most} {k} {a} {b} s h = record {
   left = rw (← untaken-alike top n n (le-refl n) s) (h .left);
 }
 
--- Another tail behind the first n keys
-pub same-front : (n : ℕ) (a tail : List ℕ) → n ≤ length a → Same n a (take n a ++ tail)
-same-front n a tail h = record {
-  wide-a = h;
-  wide-b = omega (arith, length-append (take n a) tail, length-take-le n a h);
-  keys = λ i l. sym (List·getD-append (take n a) tail 0 i (omega (arith, length-take-le n a h)) ∙ getD-take n a i 0 l);
+-- Another tail, behind the first n keys and what else stands before it
+pub same-part : (n k : ℕ) (a tail : List ℕ) → n ≤ k → k ≤ length a → Same n a (take k a ++ tail)
+same-part n k a tail few h = record {
+  wide-a = omega arith;
+  wide-b = omega (arith, length-append (take k a) tail, length-take-le k a h);
+  keys = λ i l. sym (List·getD-append (take k a) tail 0 i (omega (arith, length-take-le k a h)) ∙ getD-take k a i 0 (omega arith));
 }
 
 -- The part of an array from its n-th place on

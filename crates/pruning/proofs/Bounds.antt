@@ -20,7 +20,6 @@ use Rattle.pruning.specs.Arrays.{leastFirst}
 use Rattle.metric.specs.Parts.{bitOf}
 use Rattle.pruning.specs.Program.{above, largestPartial, Ranged, Taken, Kept, keptOf, fresh, loweredAt, lowered, noted}
 use Rattle.pruning.specs.Program.{noRow, chosen, keyOf, childOf, keysOf, onward, siblings, testOf, below}
-use Rattle.metric.proofs.Filled.{filled-at}
 use Rattle.pruning.proofs.Arrays.{least-below, set-each, Held, held-start}
 use Rattle.pruning.proofs.Answer.{largest-low}
 
@@ -175,8 +174,8 @@ module _ (v : Vector) (level : ℕ) (inner : level ≡ 0 → ⊥) (inside : leve
         rw more (omega (arith, increment-bound row (bitsOf (v .width) s ++ bitsOf (chosen v (suc (level - 1))) node), low))
 
     -- and so are the keys of all
-    pub keys-held : (node n : ℕ) → n ≡ 2 ^ v .width → (old keys : List ℕ) → 2 ^ v .width ≤ length old
-        → keys ≡ filled (keyOf v (level - 1) node d) (2 ^ v .width) old → Held above n (largestPartial v (level - 1)) 0 keys
-    keys-held node n en old keys w e = rw en
-        (held-start above (2 ^ v .width) (largestPartial v (level - 1)) keys (partial-low v r (level - 1))
-        (λ i h. rw (e, filled-at (keyOf v (level - 1) node d) (2 ^ v .width) old i 0 h w) (key-bound node i)))
+    pub keys-held : (node : ℕ) (keys : List ℕ) → ((s : ℕ) → s < 2 ^ v .width → getD keys s 0 ≡ keyOf v (level - 1) node d s)
+        → Held above (2 ^ v .width) (largestPartial v (level - 1)) 0 keys
+    keys-held node keys each =
+        held-start above (2 ^ v .width) (largestPartial v (level - 1)) keys (partial-low v r (level - 1))
+        (λ i h. rw (each i h) (key-bound node i))

@@ -1,5 +1,5 @@
--- The three runs of the array of minima: the least metrics with a bit 0, those with it 1, and the limits.
-use Prim.Native.Nat.{ℕ, suc, _+_, _-_, _<_}
+-- The runs of the array of minima: the least metrics with a bit 0, those with it 1, and the limits with what they give.
+use Prim.Native.Nat.{ℕ, suc, _+_, _-_, _≤_, _<_}
 use mathlib.Core.Path.{_≡_, sym, _∙_, ap, ap₂}
 use mathlib.Core.List.{List, [], _∷_, _++_}
 use native.Mathlib.Omega.{arith}
@@ -18,11 +18,8 @@ one-at minima i h = sym (getD-take 24 (drop 24 minima) i 0 h ∙ getD-drop 24 mi
 pub limits-part : (minima : List ℕ) → take (length minima - 48) (drop 48 minima) ≡ limitsOf minima
 limits-part minima = take-all (length minima - 48) (drop 48 minima) (omega (arith, length-drop 48 minima))
 
-pub limits-length : (minima : List ℕ) → length minima ≡ 72 → length (limitsOf minima) ≡ 24
-limits-length minima h = omega (arith, length-drop 48 minima)
-
-pub limits-front : (minima : List ℕ) → length minima ≡ 72 → take 24 (drop 48 minima) ≡ limitsOf minima
-limits-front minima h = take-all 24 (drop 48 minima) (omega (arith, limits-length minima h))
+pub limits-length : (minima : List ℕ) → length (limitsOf minima) ≡ length minima - 48
+limits-length minima = length-drop 48 minima
 
 set-behind : (a b : List ℕ) (i u : ℕ) → set (a ++ b) (length a + i) u ≡ a ++ set b i u
 set-behind [] b i u = let e : 0 + i ≡ i = omega arith in rw e
@@ -31,7 +28,7 @@ set-behind (x ∷ a) b i u =
     rw e (ap (λ (l : List ℕ). x ∷ l) (set-behind a b i u))
 
 -- Other limits behind the minima
-module _ (minima : List ℕ) (whole : length minima ≡ 72) (limits : List ℕ) where
+module _ (minima : List ℕ) (whole : 48 ≤ length minima) (limits : List ℕ) where
   front : length (take 48 minima) ≡ 48
   front = length-take-le 48 minima (omega arith)
 
@@ -55,7 +52,7 @@ module _ (minima : List ℕ) (whole : length minima ≡ 72) (limits : List ℕ) 
   pub limits-are : limitsOf (take 48 minima ++ limits) ≡ limits
   limits-are = drop-at (take 48 minima) limits 48 front
 
-  pub limits-whole : length limits ≡ 24 → length (take 48 minima ++ limits) ≡ 72
+  pub limits-whole : length limits ≡ length minima - 48 → length (take 48 minima ++ limits) ≡ length minima
   limits-whole h = omega (arith, length-append (take 48 minima) limits, front)
 
   -- One of them is written

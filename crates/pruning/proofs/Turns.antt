@@ -12,11 +12,9 @@ use lib.ListN.{length, getD, set}
 use lib.Pow.{pow-pos}
 use Rattle.model.specs.Metric.{Vector}
 use Rattle.model.proofs.Lists.{length-upFrom, getD-places}
-use Rattle.metric.specs.Parts.{filled}
 use Rattle.pruning.specs.Arrays.{leastFirst}
 use Rattle.pruning.specs.Program.{above, Taken, Kept, keptOf, passing}
 use Rattle.pruning.specs.Program.{keyOf, childOf, keysOf, onward, siblings, testOf, below, restOf}
-use Rattle.metric.proofs.Filled.{filled-at, filled-length}
 use Rattle.pruning.proofs.Arrays.{least-below, Same, least-same, same-set}
 
 -- Only the first n keys decide
@@ -40,11 +38,11 @@ module _ (test : ℕ → ℕ → Taken → Bool) (sub : ℕ → ℕ → Kept →
 
 module _ (v : Vector) (n : ℕ) (en : n ≡ 2 ^ v .width) (allowance node level : ℕ) where
   -- Another level: the keys of its children, in an array with room for them
-  pub rest-start : (inner : level ≡ 0 → ⊥) (d : ℕ) (old keys : List ℕ) → 2 ^ v .width ≤ length old
-      → keys ≡ filled (keyOf v (level - 1) node d) (2 ^ v .width) old → (k : Kept)
+  pub rest-start : (inner : level ≡ 0 → ⊥) (d : ℕ) (keys : List ℕ) → 2 ^ v .width ≤ length keys
+      → ((s : ℕ) → s < 2 ^ v .width → getD keys s 0 ≡ keyOf v (level - 1) node d s) → (k : Kept)
       → below v allowance level node d k ≡ restOf v allowance (level - 1) node (n - 0) keys k
   unfolding below restOf
-  rest-start inner d old keys w e k =
+  rest-start inner d keys w each k =
       let up : level ≡ suc (level - 1) = omega arith in
       let fuel : n - 0 ≡ 2 ^ v .width = omega arith in
       ap (λ (l : ℕ). below v allowance l node d k) up
@@ -62,9 +60,8 @@ module _ (v : Vector) (n : ℕ) (en : n ≡ 2 ^ v .width) (allowance node level 
       same : Same (2 ^ v .width) (keysOf v (level - 1) node d) keys
       same = record {
         wide-a = le-of-eq (sym (length-upFrom key 0 (2 ^ v .width)));
-        wide-b = rw e (omega (arith, filled-length key (2 ^ v .width) old));
-        keys = λ i l. getD-places key 0 (2 ^ v .width) i l
-            ∙ sym (ap (λ (x : List ℕ). getD x i 0) e ∙ filled-at key (2 ^ v .width) old i 0 l w);
+        wide-b = w;
+        keys = λ i l. getD-places key 0 (2 ^ v .width) i l ∙ sym (each i l);
       }
 
   -- Only the children's keys matter

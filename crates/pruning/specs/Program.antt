@@ -59,7 +59,7 @@ pub record Kept : Type 0 where
 abbrev pub takenOf : ℕ → ℕ → List ℕ → List ℕ → Taken
 takenOf label best zeros ones = record { label = label; best = best; zeros = zeros; ones = ones }
 
--- One array has each bit's least metric with it 0, that with it 1, and its limit: three runs, each with room for a label's bits
+-- One array has each bit's least metric with it 0, then that with it 1, two runs with room for a label's bits, and then the limits
 abbrev pub zerosOf : List ℕ → List ℕ
 zerosOf minima = take mostBits minima
 
@@ -101,10 +101,6 @@ module _ (v : Vector) (t : Taken) where
   -- The pass test
   unfoldable pub passing : ℕ → ℕ → ℕ → Bool
   passing d free child = leb d (t .best) || anyOf (lets d free child) (places v)
-
-  -- No child of partial metric d or more can pass: d is above B and not below any bit's limit
-  unfoldable pub beyond : ℕ → Bool
-  beyond d = not (leb d (t .best) || anyOf (reaches d) (places v))
 
 -- The least metric at place i with a bit x, after one more label of metric d
 unfoldable pub loweredAt : ℕ → Bool → ℕ → ℕ → List ℕ → ℕ → ℕ

@@ -1,6 +1,6 @@
--- A leaf is taken: its metric lowers the minima of its bits, first those of zeros, then those of ones; then the limits are made anew
--- behind them.
-use Prim.Native.Nat.{ℕ, _-_, _≤_, min}
+-- A leaf is taken: its metric lowers the minima of its bits, first those of zeros, then those of ones; then the limits are renewed behind
+-- them.
+use Prim.Native.Nat.{ℕ, min}
 use mathlib.Core.Path.{_≡_, sym, _∙_, ap, ap₂}
 use mathlib.Core.Bool.{true, false, cond}
 use mathlib.Core.List.{List, _++_}
@@ -8,12 +8,9 @@ use native.Mathlib.Omega.{arith}
 use lib.ListN.{length, take, drop, length-append, length-drop}
 use lib.Seq.{take-at, drop-at, length-take-le}
 use Rattle.model.specs.Metric.{Vector, labelBits}
-use Rattle.metric.specs.Parts.{filled}
 use Rattle.metric.proofs.Filled.{filled-length}
-use Rattle.pruning.specs.Program.{Taken, takenOf, takenIn, zerosOf, onesOf, limitsOf, lowered, sooner, noted}
-use Rattle.search.specs.Limits.{limitAt, widestFrom, Limited}
-use Rattle.pruning.proofs.Minima.{taken-kept, limits-are, limits-whole, limits-part, limits-length}
-use Rattle.search.proofs.Limits.{limited}
+use Rattle.pruning.specs.Program.{Taken, takenOf, takenIn, zerosOf, onesOf, lowered, sooner, noted}
+use Rattle.search.specs.Limits.{minimaSize, Renewed}
 
 -- A leaf noted, by its parts
 noted-by : (v : Vector) (n : ℕ) → n ≡ labelBits v → (t : Taken) (node d label best : ℕ) (zeros ones : List ℕ)
@@ -22,7 +19,7 @@ noted-by : (v : Vector) (n : ℕ) → n ≡ labelBits v → (t : Taken) (node d 
 unfolding noted
 noted-by v n en t node d label best zeros ones el eb ez eo = (λ j. takenOf (el j) (eb j) (ez j) (eo j)) ∙ rw en
 
-module _ (old : List ℕ) (whole : length old ≡ 72) where
+module _ (old : List ℕ) (whole : length old ≡ minimaSize) where
   -- The lowered minima are as many
   pub front-whole : length (zerosOf old) ≡ 24
   front-whole = length-take-le 24 old (omega arith)
@@ -55,7 +52,7 @@ module _ (old : List ℕ) (whole : length old ≡ 72) where
       front-length : length (take 24 (zeros ++ drop 24 old)) ≡ 24
       front-length = ap length front ∙ zeros-whole
 
-      pub sides-whole : length sides ≡ 72
+      pub sides-whole : length sides ≡ minimaSize
       sides-whole =
           let rest = drop 24 (drop 24 (zeros ++ drop 24 old)) in
           omega (
@@ -77,25 +74,12 @@ module _ (old : List ℕ) (whole : length old ≡ 72) where
           ap₂ (takenOf label best) (take-at (take 24 (zeros ++ drop 24 old)) (ones ++ rest) 24 front-length ∙ front)
           (ap (take 24) (drop-at (take 24 (zeros ++ drop 24 old)) (ones ++ rest) 24 front-length) ∙ take-at ones rest 24 ones-whole)
 
-      -- and the limits made anew
-      module _ (v : Vector) (en : n ≡ labelBits v) (few : n ≤ 24) (label best : ℕ) (after : List ℕ)
-          (ea : after ≡ take 48 sides ++ filled (limitAt v (takenIn label best sides)) n (limitsOf sides)) where
-        pub after-whole : length after ≡ 72
-        after-whole = ap length ea ∙ limits-whole sides sides-whole _ (filled-length _ _ (limitsOf sides) ∙ limits-length sides sides-whole)
-
-        same : takenIn label best after ≡ takenIn label best sides
-        same = ap (takenIn label best) ea ∙ taken-kept sides sides-whole _ label best
-
+      -- and the limits renewed
+      module _ (v : Vector) (en : n ≡ labelBits v) (label best : ℕ) (after : List ℕ) (r : Renewed v label best sides after) where
         pub leaf-noted : (t : Taken) → t .zeros ≡ zerosOf old → t .ones ≡ onesOf old
             → label ≡ cond (sooner d node (t .best) (t .label)) node (t .label) → best ≡ min d (t .best)
             → takenIn label best after ≡ noted v node d t
         leaf-noted t tz to el eb =
-            same ∙ taken-is label best
-            ∙ noted-by v n en t node d label best zeros ones el eb (ez ∙ ap (lowered n false node d) (sym tz)) (ones-are ∙ ap (lowered n true node d) (sym to))
-
-        pub leaf-limited : (widest : ℕ) → widest ≡ widestFrom (take (length after - 48) (drop 48 after)) 0 n
-            → Limited v (takenIn label best after) (limitsOf after) widest
-        leaf-limited widest ew =
-            limited v (takenIn label best after) n en (limitsOf sides) (limitsOf after) (omega (arith, limits-length sides sides-whole))
-            (ap limitsOf ea ∙ limits-are sides sides-whole _ ∙ ap (λ (t : Taken). filled (limitAt v t) n (limitsOf sides)) (sym same)) widest
-            (ew ∙ ap (λ (l : List ℕ). widestFrom l 0 n) (limits-part after))
+            r .kept ∙ taken-is label best
+            ∙ noted-by v n en t node d label best zeros ones el eb (ez ∙ ap (lowered n false node d) (sym tz))
+            (ones-are ∙ ap (lowered n true node d) (sym to))

@@ -1,7 +1,9 @@
 -- The search over numbers gives the model's answer, and the laws that code's proofs cite.
 pub mod Limits
+pub mod Renewed
 pub mod Leaves
 pub mod Rows
+pub mod Children
 pub mod Verdicts
 pub mod Search
 pub mod Values

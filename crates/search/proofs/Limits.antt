@@ -1,23 +1,33 @@
--- A limit as one number says what the two bounds say together, and the widest limit what all limits say of a later child.
-use Prim.Native.Nat.{ℕ, zero, suc, _+_, _-_, _≤_, _<_, min, max}
-use mathlib.Core.Path.{_≡_, refl, sym, _∙_, ap}
-use mathlib.Core.Bool.{Bool, true, false, cond, not, _&&_, _||_}
+-- A limit as one number says what the two bounds say together, and what the limits give decides the pass test.
+use Prim.Native.Nat.{ℕ, suc, _+_, _-_, _*_, _/_, _%_, _^_, _≤_, _<_, min, max}
+use mathlib.Core.Path.{_≡_, refl, sym, _∙_, ap, ap₂, subst}
+use mathlib.Core.Bool.{Bool, true, false, cond, _&&_, _||_}
 use mathlib.Core.List.{List}
+use mathlib.Core.Logic.{⊎-elim}
+use native.Mathlib.Nat.{add-mul, le-trans, mod-lt}
 use native.Mathlib.Omega.{arith}
+use lib.Bits.{bitXor, xor-lt}
 use lib.Dec.{leb, ltb}
-use borrow.Author.Tests.{lt-ltb, le-ltb, le-leb, lt-leb, ltb-true, ltb-false}
-use lib.ListN.{length, getD}
+use borrow.Author.Tests.{lt-ltb, le-ltb, lt-leb, ltb-true, ltb-false}
+use lib.ListN.{length, getD, drop}
+use lib.Seq.{getD-take, getD-drop}
 use lib.IntN.{ℤ, pos, negsuc}
+use lib.Pow.{pow-pos, pow-mono, shr-lt}
 use lib.Signed.{ltZ}
 use Rattle.model.specs.Metric.{Vector, labelBits, priorAt}
-use Rattle.model.specs.Soft.{upFrom}
-use Rattle.model.specs.Walk.{anyOf}
-use Rattle.model.proofs.Lists.{any-upFrom}
-use Rattle.metric.specs.Parts.{bitOf, filled}
-use Rattle.metric.proofs.Filled.{filled-at, filled-length}
-use Rattle.pruning.specs.Program.{Taken, opens, reachOf, reaches, lets, passing, beyond}
-use Rattle.pruning.proofs.Steps.{anyFrom}
-use Rattle.search.specs.Limits.{upOf, limitAt, widestFrom, Limited, letsBy, passingBy}
+use Rattle.model.specs.Block.{mostWidth}
+use Rattle.model.proofs.Lists.{any-upFrom, or-left, or-right}
+use Rattle.metric.specs.Parts.{axisWidth, span, bitOf}
+use Rattle.metric.specs.Tables.{Axis, axisBits}
+use Rattle.metric.specs.Tables.Axis.{real, imaginary}
+use Rattle.pruning.specs.Program.{Taken, opens, reachOf, reaches, lets, passing}
+use Rattle.pruning.specs.Reach.{widestOf}
+use Rattle.pruning.proofs.Reach.{ltb-max, any-widest, widest-split, widest-same}
+use Rattle.cutoff.specs.Cut.{symbolReach}
+use Rattle.reach.specs.Reach.{firstPlace, entryPlace, axisStart, axisReach, Reaches, streamReach, chosenReach, symbolOf}
+use Rattle.reach.proofs.Passing.{stream-wider, chosen-is, chosen-child, xor-opposite}
+use Rattle.search.specs.Limits.{upOf, limitAt, Limited, passesBy}
+use Rattle.search.specs.Expand.{entriesOf, WouldCut}
 
 up-is : (d : ℕ) (z : ℤ) → ltZ (pos d) z ≡ ltb d (upOf z)
 unfolding upOf
@@ -32,20 +42,6 @@ ltb-min d a b = go (ltb d a) refl (ltb d b) refl
     go true e false f = le-ltb d (min a b) (omega (arith, ltb-false d b f))
     go false e y f = le-ltb d (min a b) (omega (arith, ltb-false d a e))
 
-ltb-max : (d a b : ℕ) → ltb d (max a b) ≡ (ltb d a || ltb d b)
-ltb-max d a b = go (ltb d a) refl (ltb d b) refl
-  where
-    go : (x : Bool) → ltb d a ≡ x → (y : Bool) → ltb d b ≡ y → ltb d (max a b) ≡ (x || y)
-    go true e y f = lt-ltb d (max a b) (omega (arith, ltb-true d a e))
-    go false e true f = lt-ltb d (max a b) (omega (arith, ltb-true d b f))
-    go false e false f = le-ltb d (max a b) (omega (arith, ltb-false d a e, ltb-false d b f))
-
-and-comm : (a b : Bool) → (a && b) ≡ (b && a)
-and-comm true true = refl
-and-comm true false = refl
-and-comm false true = refl
-and-comm false false = refl
-
 -- Below a bit's limit is below both bounds
 reaches-limit : (v : Vector) (t : Taken) (d i : ℕ) → reaches v t d i ≡ ltb d (limitAt v t i)
 unfolding reaches limitAt
@@ -55,47 +51,162 @@ reaches-limit v t d i =
     let z = reachOf b (t .best + v .clip) (priorAt v i) in
     ap (λ (x : Bool). ltb d u && x) (up-is d z) ∙ sym (ltb-min d u (upOf z))
 
-any-widest : (limits : List ℕ) (d a n : ℕ) → anyOf (λ i. ltb d (getD limits i 0)) (upFrom a n) ≡ ltb d (widestFrom limits a n)
-unfolding upFrom widestFrom
-any-widest limits d a zero = sym (le-ltb d 0 (omega arith))
-any-widest limits d a (suc n) =
-    ap (λ (x : Bool). ltb d (getD limits a 0) || x) (any-widest limits d (suc a) n)
-    ∙ sym (ltb-max d (getD limits a 0) (widestFrom limits (suc a) n))
-
-module _ (v : Vector) (t : Taken) (limits : List ℕ) (widest : ℕ) (l : Limited v t limits widest) (d : ℕ) where
-  -- The pass test by the limits is document 01's
-  pub passing-by : (free child : ℕ) → passingBy (labelBits v) (t .label) (t .best) limits d free child ≡ passing v t d free child
-  unfolding passingBy passing letsBy lets
-  passing-by free child =
-      ap (λ (x : Bool). leb d (t .best) || x)
-      (any-upFrom _ _ 0 (labelBits v) (λ i h.
-      and-comm (ltb d (getD limits i 0)) (opens (labelBits v) (t .label) free child i)
-      ∙ ap (λ (x : Bool). opens (labelBits v) (t .label) free child i && x)
-      (ap (ltb d) (l .each i (omega arith)) ∙ sym (reaches-limit v t d i))))
-
-  -- No later child passes where d is above B and not below the widest limit
-  pub beyond-by : beyond v t d ≡ not (leb d (t .best) || ltb d widest)
-  unfolding beyond
-  beyond-by =
-      ap (λ (x : Bool). not (leb d (t .best) || x))
-      (any-upFrom _ _ 0 (labelBits v) (λ i h. reaches-limit v t d i ∙ ap (ltb d) (sym (l .each i (omega arith))))
-      ∙ any-widest limits d 0 (labelBits v) ∙ ap (ltb d) (sym (l .most)))
-
--- The limits filled in, and the widest of them
-pub limited : (v : Vector) (t : Taken) (n : ℕ) → n ≡ labelBits v → (old limits : List ℕ) → n ≤ length old → limits ≡ filled (limitAt v t) n old
-    → (widest : ℕ) → widest ≡ widestFrom limits 0 n → Limited v t limits widest
-limited v t n en old limits room e widest f = record {
-  room = omega (arith, ap length e, filled-length (limitAt v t) n old);
-  each = λ i h. ap (λ (l : List ℕ). getD l i 0) e ∙ filled-at (limitAt v t) n old i 0 (omega arith) room;
-  most = f ∙ ap (widestFrom limits 0) en;
+-- The limits decide what they give
+pub reaches-same : {q k : ℕ} {f g : ℕ → ℕ} {limits : List ℕ} → ((i : ℕ) → i < k * q → f i ≡ g i) → Reaches q f limits k → Reaches q g limits k
+unfolding axisReach
+reaches-same {q} {k} {f} {g} {limits} same r = record {
+  size = r .size;
+  first = λ level h. r .first level h
+      ∙ widest-same _ _ f g 0 (level * q) (λ i _ l. same i (omega (arith, part level (k - level) (omega arith))));
+  entry = λ j h x e l. r .entry j h x e l
+      ∙ widest-same _ _ f g (axisStart q j x) (axisBits q x)
+      (λ i _ m. ap (λ (y : ℕ). cond (bitOf (axisBits q x) e (i - axisStart q j x)) y 0) (same i (omega (arith, part (j + 1) (k - (j + 1)) (omega arith), within j x))));
 }
+  where
+    part : (a b : ℕ) → k ≡ a + b → k * q ≡ a * q + b * q
+    part a b e = ap (λ (x : ℕ). x * q) e ∙ add-mul a b q
 
--- The pass test above B, bit by bit
-pub passing-low : (n label best : ℕ) (limits : List ℕ) (d free child : ℕ) → d ≤ best → true ≡ passingBy n label best limits d free child
-unfolding passingBy
-passing-low n label best limits d free child h = sym (rw (le-leb d best h))
+    within : (j : ℕ) (x : Axis) → axisStart q j x + axisBits q x ≤ (j + 1) * q
+    within j real = omega (arith, add-mul j 1 q)
+    within j imaginary = omega (arith, add-mul j 1 q)
 
-pub passing-start : (n label best : ℕ) (limits : List ℕ) (d free child : ℕ) → best < d
-    → passingBy n label best limits d free child ≡ anyFrom (letsBy n label limits d free child) n 0
-unfolding passingBy
-passing-start n label best limits d free child h = let e : n - 0 ≡ n = omega arith in rw (lt-leb d best h, e)
+-- A stream's entries by themselves
+entries-reach : (q : ℕ) (limits : List ℕ) (j s : ℕ) → q ≤ mostWidth → s < 2 ^ q
+    → symbolReach q (entriesOf limits j) s ≡ streamReach q limits j s
+unfolding symbolReach streamReach
+entries-reach q limits j s few h =
+    let place : entryPlace j real + (span + s % 2 ^ (q / 2)) ≡ entryPlace j imaginary + s % 2 ^ (q / 2) = omega arith in
+    ap₂ max (at (s / 2 ^ (q / 2)) (omega (arith, rows)))
+    (at (span + s % 2 ^ (q / 2)) (omega (arith, columns)) ∙ ap (λ (i : ℕ). getD limits i 0) place)
+  where
+    at : (i : ℕ) → i < 2 * span → getD (entriesOf limits j) i 0 ≡ getD limits (entryPlace j real + i) 0
+    at i k = getD-take (2 * span) (drop (entryPlace j real) limits) i 0 k ∙ getD-drop (entryPlace j real) limits i 0
+
+    rows : s / 2 ^ (q / 2) < span
+    rows =
+        let e : q ≡ q - q / 2 + q / 2 = omega arith in
+        let half : q - q / 2 ≤ axisWidth = omega arith in
+        omega (arith, shr-lt (q - q / 2) (q / 2) (subst (λ (x : ℕ). s < 2 ^ x) e h), pow-mono half)
+
+    columns : s % 2 ^ (q / 2) < span
+    columns =
+        let half : q / 2 ≤ axisWidth = omega arith in
+        omega (arith, mod-lt s (pow-pos (q / 2)), pow-mono half)
+
+module _ (v : Vector) (t : Taken) (limits : List ℕ) (l : Limited v t limits) (m : ℕ) (em : m ≡ length (v .rows)) where
+  abbrev n : ℕ
+  n = labelBits v
+
+  abbrev limit : ℕ → ℕ
+  limit = limitAt v t
+
+  reached : Reaches (v .width) limit limits m
+  reached = rw em l
+
+  -- The bits that are open at a node: all that are not chosen, and the chosen ones opposite to m's
+  module _ (level bits : ℕ) (inside : level ≤ m) where
+    abbrev free : ℕ
+    free = level * v .width
+
+    abbrev opened : ℕ → Bool
+    opened = opens n (t .label) free bits
+
+    split : n ≡ free + (m - level) * v .width
+    split =
+        let e : length (v .rows) ≡ level + (m - level) = omega arith in
+        ap (λ (x : ℕ). x * v .width) e ∙ add-mul level (m - level) (v .width)
+
+    unchosen : widestOf opened limit 0 free ≡ getD limits (firstPlace level) 0
+    unfolding opens
+    unchosen =
+        widest-same opened (λ _. true) limit limit 0 free (λ i _ h. let e : ltb i free ≡ true = lt-ltb i free (omega arith) in rw e)
+        ∙ sym (reached .first level inside)
+
+    chosen-bits : widestOf opened limit (0 + free) ((m - level) * v .width) ≡ chosenReach m (v .width) limits level (bitXor bits (t .label))
+    unfolding opens
+    chosen-bits =
+        let start : 0 + free ≡ free = omega arith in
+        rw start
+        (widest-same opened (bitOf (m * v .width) (bitXor bits (t .label))) limit limit free ((m - level) * v .width)
+        (λ i h _.
+        let e : ltb i free ≡ false = le-ltb i free h in
+        rw (e, em) (ap (λ (b : Bool). cond b (limit i) 0) (sym (xor-opposite n bits (t .label) i))))
+        ∙ sym (chosen-is m (v .width) reached level (bitXor bits (t .label)) inside))
+
+    -- The pass test by what the limits give is document 01's
+    pub passing-by : (d : ℕ) → passing v t d free bits ≡ passesBy m (v .width) (t .label) (t .best) limits d level bits
+    unfolding passing lets passesBy
+    passing-by d =
+        ap (λ (x : Bool). leb d (t .best) || x)
+        (any-upFrom _ _ 0 n (λ i h. ap (λ (x : Bool). opened i && x) (reaches-limit v t d i))
+        ∙ any-widest opened limit d 0 n
+        ∙ ap (ltb d) (ap (widestOf opened limit 0) split ∙ widest-split opened limit 0 free ((m - level) * v .width))
+        ∙ ltb-max d _ _ ∙ ap₂ (λ (x y : ℕ). ltb d x || ltb d y) unchosen chosen-bits)
+
+  -- A child that would be cut fails the pass test
+  module _ (level node s d : ℕ) (inner : level ≡ 0 → ⊥) (inside : level ≤ m) (placed : node < 2 ^ ((m - level) * v .width))
+      (few : v .width ≤ mostWidth) (symbol : s < 2 ^ v .width) where
+    abbrev own : ℕ
+    own = symbolOf m (v .width) (t .label) (level - 1)
+
+    abbrev diff : ℕ
+    diff = bitXor s own
+
+    up : suc (level - 1) ≡ level
+    up = omega arith
+
+    inside-own : own < 2 ^ v .width
+    inside-own = mod-lt _ (pow-pos (v .width))
+
+    -- What its own symbol's bits give
+    own-low : WouldCut m (v .width) level node (t .label) (t .best) limits d s → streamReach (v .width) limits (level - 1) diff ≤ d
+    own-low w = ⊎-elim wide narrow (w .above-own)
+      where
+        wide : getD limits (firstPlace level) 0 ≤ d → streamReach (v .width) limits (level - 1) diff ≤ d
+        wide h =
+            le-trans
+            (stream-wider reached (level - 1) diff (omega arith) (xor-lt (v .width) s own symbol inside-own))
+            (subst (λ (l : ℕ). getD limits (firstPlace l) 0 ≤ d) (sym up) h)
+
+        narrow : symbolReach (v .width) (entriesOf limits (level - 1)) diff ≤ d → streamReach (v .width) limits (level - 1) diff ≤ d
+        narrow h = rw (← entries-reach (v .width) limits (level - 1) diff few (xor-lt (v .width) s own symbol inside-own)) h
+
+    -- The chosen bits of the child: its own symbol's, and the node's
+    child-reach : chosenReach m (v .width) limits (level - 1) (bitXor (s * 2 ^ ((m - level) * v .width) + node) (t .label))
+        ≡ max (streamReach (v .width) limits (level - 1) diff) (chosenReach m (v .width) limits level (bitXor node (t .label)))
+    child-reach =
+        subst
+        (λ (l : ℕ).
+        chosenReach m (v .width) limits (level - 1) (bitXor (s * 2 ^ ((m - l) * v .width) + node) (t .label))
+        ≡ max (streamReach (v .width) limits (level - 1) diff) (chosenReach m (v .width) limits l (bitXor node (t .label)))) up
+        (chosen-child m (v .width) limits (level - 1) node s (t .label) (omega arith)
+        (subst (λ (l : ℕ). node < 2 ^ ((m - l) * v .width)) (sym up) placed) symbol)
+
+    abbrev child : ℕ
+    child = s * 2 ^ ((m - level) * v .width) + node
+
+    pub would-cut : WouldCut m (v .width) level node (t .label) (t .best) limits d s → passing v t d ((level - 1) * v .width) child ≡ false
+    unfolding passesBy
+    would-cut w =
+        passing-by (level - 1) child (omega arith) d
+        ∙ ap₂ _||_ (lt-leb d (t .best) (w .above-best))
+        (ap₂ _||_ (le-ltb d _ (w .above-free)) (le-ltb d _ (rw child-reach (omega (arith, own-low w, w .above-chosen)))))
+
+    -- Where a child fails, and its metric is not below any limit of the streams that its parent has not chosen, the parent fails with it
+    pub node-fails : passing v t d ((level - 1) * v .width) child ≡ false → getD limits (firstPlace level) 0 ≤ d
+        → passing v t d (level * v .width) node ≡ false
+    unfolding passesBy
+    node-fails fails h =
+        passing-by level node inside d
+        ∙ ap₂ _||_ (or-left (leb d (t .best)) _ shut)
+        (ap₂ _||_ (le-ltb d _ h)
+        (le-ltb d (chosenReach m (v .width) limits level (bitXor node (t .label)))
+        (omega (arith, child-reach, low))))
+      where
+        shut : passesBy m (v .width) (t .label) (t .best) limits d (level - 1) child ≡ false
+        shut = sym (passing-by (level - 1) child (omega arith) d) ∙ fails
+
+        low : chosenReach m (v .width) limits (level - 1) (bitXor child (t .label)) ≤ d
+        low =
+            ltb-false d (chosenReach m (v .width) limits (level - 1) (bitXor child (t .label)))
+            (or-right (ltb d (getD limits (firstPlace (level - 1)) 0)) _ (or-right (leb d (t .best)) _ shut))

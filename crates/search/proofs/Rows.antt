@@ -1,6 +1,6 @@
--- The vector that a search is asked for is in range, and its keys are those that metric fills in: each of its rows is the row that is
+-- The vector that a search is asked for is in range, and its keys are those that metric measures: each of its rows is the row that is
 -- read off its numbers.
-use Prim.Native.Nat.{ℕ, suc, _-_, _^_, _<_}
+use Prim.Native.Nat.{ℕ, suc, _-_, _<_}
 use mathlib.Core.Path.{_≡_, subst}
 use mathlib.Core.List.{List, [], _∷_}
 use native.Mathlib.Omega.{arith}
@@ -10,11 +10,9 @@ use Rattle.model.specs.Metric.{Row}
 use Rattle.model.specs.Block.{RowInRange, RowsInRange}
 use Rattle.block.specs.Contents.{rowsOf}
 use Rattle.block.proofs.Places.{rows-count}
-use Rattle.metric.specs.Parts.{filled}
 use Rattle.metric.specs.Rows.{rowAt, childOf as rowKey, VectorAsked}
 use Rattle.metric.proofs.Rows.{row-in-range}
 use Rattle.metric.proofs.Link.{row-at}
-use Rattle.metric.proofs.Filled.{filled-same}
 use Rattle.pruning.specs.Program.{Ranged, noRow, chosen, keyOf}
 use Rattle.search.specs.Limits.{vectorAt, SearchAsked}
 
@@ -41,12 +39,10 @@ module _ (m q : ℕ) (numbers : List ℤ) (a : VectorAsked m q numbers) where
       let k : i < m = omega (arith, rows-count m q numbers) in
       rw (rows-count m q numbers, row-is i noRow k) (row-in-range a i k)
 
-  -- The keys of a node's children
-  pub keys-by : (clip level node d : ℕ) → level < m → (old : List ℕ)
-      → filled (rowKey m q numbers level node d) (2 ^ q) old ≡ filled (keyOf (vectorAt m q clip numbers) level node d) (2 ^ q) old
+  -- The key of a node's child
+  pub key-by : (clip level node d s : ℕ) → level < m → rowKey m q numbers level node d s ≡ keyOf (vectorAt m q clip numbers) level node d s
   unfolding rowKey keyOf chosen
-  keys-by clip level node d h old =
-      filled-same _ _ (2 ^ q) old (λ s k. rw (rows-count m q numbers, row-is level noRow h))
+  key-by clip level node d s h = rw (rows-count m q numbers, row-is level noRow h)
 
 -- The vector is in range
 pub ranged : (m q clip : ℕ) (numbers : List ℤ) → SearchAsked m q clip numbers → Ranged (vectorAt m q clip numbers)

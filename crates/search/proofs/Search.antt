@@ -1,5 +1,5 @@
 -- The search below a node by its steps: the state before a child is tried, and what each verdict on that child makes of it.
-use Prim.Native.Nat.{ℕ, suc, _+_, _-_, _*_, _^_, _≤_, _<_}
+use Prim.Native.Nat.{ℕ, suc, _+_, _-_, _*_, _/_, _^_, _≤_, _<_}
 use mathlib.Core.Path.{_≡_, refl, sym, _∙_, ap, ap₂, subst}
 use mathlib.Core.Bool.{Bool, true, false}
 use mathlib.Core.List.{List, _++_}
@@ -7,59 +7,64 @@ use native.Mathlib.Nat.{suc-mul, le-of-lt, le-trans, le-refl, mul-le-mul, lt-of-
 use native.Mathlib.Omega.{arith}
 use lib.Dec.{ltb}
 use borrow.Author.Tests.{ltb-true, ltb-false}
-use lib.ListN.{length, getD, take, length-set}
+use lib.ListN.{length, getD, set, take}
 use lib.IntN.{ℤ}
-use Rattle.model.specs.Metric.{Vector, labelBits}
+use lib.Pow.{pow-mono}
+use Rattle.model.specs.Metric.{Vector}
 use Rattle.block.proofs.Places.{rows-count}
-use Rattle.metric.specs.Parts.{filled}
-use Rattle.metric.proofs.Filled.{filled-length}
 use Rattle.metric.specs.Rows.{childOf as rowKey}
 use Rattle.pruning.specs.Arrays.{leastFirst}
-use Rattle.pruning.specs.Program.{above, largestPartial, Ranged, Taken, Kept, keptOf, passing, beyond, noted, childOf, below, restOf}
-use Rattle.search.specs.Limits.{vectorAt, Limited, NextChild, WalkAsked, verdictOf, verdictBy}
+use Rattle.pruning.specs.Program.{above, largestPartial, Ranged, Taken, Kept, keptOf, passing, noted, chosen, keyOf, childOf, below, restOf}
+use Rattle.pruning.proofs.Arrays.{Same, Held, held-least, held-set, held-same, same-part}
+use Rattle.pruning.proofs.Answer.{few-children}
+use Rattle.pruning.proofs.Bounds.{kept-falls, chosen-by, symbol-inside, key-bound, keys-held, partial-low, child-placed, child-by}
+use Rattle.pruning.proofs.Turns.{rest-start, rest-same, rest-done, rest-cut, rest-halted, rest-stopped, rest-onward}
+use Rattle.pruning.proofs.Early.{rest-beyond, below-shut}
+use Rattle.reach.specs.Reach.{firstPlace}
+use Rattle.siblings.specs.Rows.{keyCount, RowLeast}
+use Rattle.siblings.proofs.Rows.{row-least-front}
+use Rattle.siblings.proofs.Taking.{took-same}
+use Rattle.search.specs.Limits.{vectorAt, passesBy, Limited, NextChild, WalkAsked, verdictBy}
+use Rattle.search.specs.Expand.{WouldCut}
 use Rattle.search.specs.declared.Verdict.{Verdict}
 use Rattle.search.specs.declared.Verdict.the-variants.{Ended, Cut, Enter, Stop}
-use Rattle.pruning.proofs.Arrays.{Held, held-least, held-set, held-same, same-front}
-use Rattle.pruning.proofs.Answer.{part-few, few-children}
-use Rattle.pruning.proofs.Bounds.{kept-falls, chosen-by, symbol-inside, keys-held, partial-low, child-placed, child-by}
-use Rattle.pruning.proofs.Turns.{rest-start, rest-same, rest-done, rest-cut, rest-halted, rest-stopped, rest-onward}
-use Rattle.pruning.proofs.Early.{rest-beyond}
-use Rattle.search.proofs.Rows.{ranged, keys-by}
-use Rattle.search.proofs.Verdicts.{verdict-by, Says, says}
+use Rattle.search.proofs.Rows.{ranged, key-by}
+use Rattle.search.proofs.Limits.{passing-by, would-cut, node-fails}
+use Rattle.search.proofs.Verdicts.{Says, says}
 
 -- Before a child is tried, `tried` of them were: what the search below the node makes of `from` is what is left to make of k. The keys
 -- have room for the levels below
 pub record Searching (m q clip : ℕ) (numbers : List ℤ) (allowance level node partial : ℕ) (from : Kept) (tried : ℕ) (keys : List ℕ)
-    (k : Kept) (limits : List ℕ) (widest : ℕ) : Type 0 where
-  pub room : level * 2 ^ q ≤ length keys
+    (k : Kept) (limits : List ℕ) : Type 0 where
+  pub room : level * keyCount q ≤ length keys
+  pub rows : RowLeast q keys
   pub lowest : k .taken .best ≤ above
   pub running : k .stopped ≡ false
   pub held : Held above (2 ^ q) (largestPartial (vectorAt m q clip numbers) (level - 1)) tried keys
   pub left : below (vectorAt m q clip numbers) allowance level node partial from
       ≡ restOf (vectorAt m q clip numbers) allowance (level - 1) node (2 ^ q - tried) keys k
-  pub limited : Limited (vectorAt m q clip numbers) (k .taken) limits widest
+  pub limited : Limited (vectorAt m q clip numbers) (k .taken) limits
 
 -- A child is tried: `after` are the keys from then on, and r is the verdict on it
-pub record Turn (m q clip : ℕ) (numbers : List ℤ) (allowance level node partial : ℕ) (from : Kept) (limits₀ : List ℕ) (widest₀ tried : ℕ)
-    (keys : List ℕ) (k : Kept) (limits : List ℕ) (widest : ℕ) (after : List ℕ) (level′ child d : ℕ) (r : Verdict) : Type 0 where
-  pub asked : WalkAsked m q clip numbers level node partial (from .taken) limits₀ widest₀
+pub record Turn (m q clip : ℕ) (numbers : List ℤ) (allowance level node partial : ℕ) (from : Kept) (limits₀ : List ℕ) (tried : ℕ)
+    (keys : List ℕ) (k : Kept) (limits : List ℕ) (after : List ℕ) (level′ child d : ℕ) (r : Verdict) : Type 0 where
+  pub asked : WalkAsked m q clip numbers level node partial (from .taken) limits₀
   pub inner : level ≡ 0 → ⊥
-  pub searching : Searching m q clip numbers allowance level node partial from tried keys k limits widest
+  pub searching : Searching m q clip numbers allowance level node partial from tried keys k limits
   pub more : tried < 2 ^ q
   pub next : NextChild m q level node keys after level′ child d
-  pub verdict : r
-      ≡ verdictBy (m * q) (k .count) (k .taken .label) (k .taken .best) widest limits allowance d (level′ * q) child
+  pub verdict : r ≡ verdictBy m q (k .count) (k .taken .label) (k .taken .best) limits allowance level d level′ child
 
 -- The keys stay as many
 pub next-length : {m q level node : ℕ} {keys after : List ℕ} {level′ child d : ℕ} → NextChild m q level node keys after level′ child d
     → length after ≡ length keys
-next-length {keys = keys} n = ap length (n .tried) ∙ length-set keys _ above
+next-length n = n .tried .size
 
 three-few : (m q level : ℕ) → m ≤ 4 → (level ≡ 0 → ⊥) → q ≤ 6 → (m - level) * q ≤ 18
 three-few m q level h k l = let f : m - level ≤ 3 = omega arith in omega (arith, mul-le-mul f l)
 
-module _ {m q clip : ℕ} {numbers : List ℤ} {level node partial : ℕ} {t : Taken} {limits₀ : List ℕ} {widest₀ : ℕ}
-    (w : WalkAsked m q clip numbers level node partial t limits₀ widest₀) where
+module _ {m q clip : ℕ} {numbers : List ℤ} {level node partial : ℕ} {t : Taken} {limits₀ : List ℕ}
+    (w : WalkAsked m q clip numbers level node partial t limits₀) where
   abbrev v : Vector
   v = vectorAt m q clip numbers
 
@@ -72,15 +77,14 @@ module _ {m q clip : ℕ} {numbers : List ℤ} {level node partial : ℕ} {t : T
   inside : level ≤ length (v .rows)
   inside = omega (arith, streams, w .inside)
 
-  label-bits : m * q ≡ labelBits v
-  label-bits = ap (λ (x : ℕ). x * q) (sym streams)
-
   -- The sizes that the code computes with
   pub kids-few : 2 ^ q ≤ 64
   kids-few = few-children v in-range
 
-  pub bits-few : (k : ℕ) → k ≤ m → k * q ≤ 24
-  bits-few k h = part-few v in-range k (omega (arith, streams))
+  pub places-few : keyCount q ≤ 72
+  places-few =
+      let half : q - q / 2 ≤ 3 = omega (arith, w .asked .vector .bits) in
+      omega (arith, kids-few, pow-mono half)
 
   pub partial-few : partial ≤ above
   partial-few = le-of-lt (lt-of-le-of-lt (w .bounded) (partial-low v in-range level))
@@ -103,39 +107,63 @@ module _ {m q clip : ℕ} {numbers : List ℤ} {level node partial : ℕ} {t : T
     node-placed = subst (λ (x : ℕ). node < 2 ^ x) (chosen-by v m level (sym streams)) (w .placed)
 
     -- The keys of a node's children have room
-    pub keys-room : (keys : List ℕ) → level * 2 ^ q ≤ length keys → 2 ^ q ≤ length keys
+    pub keys-room : (keys : List ℕ) → level * keyCount q ≤ length keys → keyCount q ≤ length keys
     keys-room keys h =
         let some : 1 ≤ level = omega arith in
-        omega (arith, mul-le-mul some (le-refl (2 ^ q)))
+        omega (arith, mul-le-mul some (le-refl (keyCount q)))
 
     -- and those behind them are enough for the level below
-    pub keys-left : {level′ : ℕ} → level′ ≡ level - 1 → (keys : List ℕ) → level * 2 ^ q ≤ length keys → level′ * 2 ^ q ≤ length keys - 2 ^ q
+    pub keys-left : {level′ : ℕ} → level′ ≡ level - 1 → (keys : List ℕ) → level * keyCount q ≤ length keys
+        → level′ * keyCount q ≤ length keys - keyCount q
     keys-left e keys h =
         let up : suc (level - 1) ≡ level = omega arith in
-        omega (arith, ap (λ (l : ℕ). l * 2 ^ q) e, ap (λ (l : ℕ). l * 2 ^ q) up, suc-mul (level - 1) (2 ^ q))
+        omega (arith, ap (λ (l : ℕ). l * keyCount q) e, ap (λ (l : ℕ). l * keyCount q) up, suc-mul (level - 1) (keyCount q))
 
-    -- The bits that the child's label leaves free
-    pub free-few : {level′ : ℕ} → level′ ≡ level - 1 → level′ * q ≤ 24
-    free-few e = omega (arith, ap (λ (l : ℕ). l * q) e, bits-few (level - 1) (omega (arith, w .inside)))
+    -- All children would be cut: the search below the node changes nothing
+    pub shut : (allowance : ℕ)
+        → ((s : ℕ) → s < 2 ^ q → WouldCut m q level node (t .label) (t .best) limits₀ (rowKey m q numbers (level - 1) node partial s) s)
+        → (count : ℕ) (stopped : Bool) → stopped ≡ false
+        → keptOf count stopped t ≡ below v allowance level node partial (keptOf count false t)
+    shut allowance cuts count stopped f =
+        ap (λ (x : Bool). keptOf count x t) f ∙ sym (ap (λ (l : ℕ). below v allowance l node partial (keptOf count false t)) up
+        ∙ below-shut v allowance (level - 1) node partial (keptOf count false t)
+        (λ s h. le-of-lt (lt-of-le-of-lt (key-bound v level inner inside in-range partial (w .bounded) node s) (partial-low v in-range (level - 1))))
+        fails)
+      where
+        up : level ≡ suc (level - 1)
+        up = omega arith
+
+        placed : node < 2 ^ ((m - suc (level - 1)) * q)
+        placed = subst (λ (l : ℕ). node < 2 ^ ((m - l) * q)) up node-placed
+
+        fails : (s : ℕ) → s < 2 ^ q → passing v t (keyOf v (level - 1) node partial s) ((level - 1) * q) (childOf v (level - 1) node s) ≡ false
+        fails s h =
+            let e = child-by v level inner inside m node s (s * 2 ^ ((m - level) * q) + node) (sym streams) refl in
+            rw (← key-by m q numbers (w .asked .vector) clip (level - 1) node partial s row-inside, ← e)
+            (would-cut v t limits₀ (w .limited) m (sym streams) level node s _ inner (w .inside) node-placed (w .asked .vector .bits) h (cuts s h))
 
     -- Before the first child, with the keys of all
-    pub start : (allowance : ℕ) (old keys : List ℕ) → level * 2 ^ q ≤ length old
-        → keys ≡ filled (rowKey m q numbers (level - 1) node partial) (2 ^ q) old → (count : ℕ) (stopped : Bool) → stopped ≡ false
-        → Searching m q clip numbers allowance level node partial (keptOf count false t) 0 keys (keptOf count stopped t) limits₀ widest₀
-    start allowance old keys wide e count stopped f =
-        let room = keys-room old wide in
-        let g = e ∙ keys-by m q numbers (w .asked .vector) clip (level - 1) node partial row-inside old in
+    pub start : (allowance : ℕ) (keys : List ℕ) → level * keyCount q ≤ length keys
+        → ((s : ℕ) → s < 2 ^ q → getD keys s 0 ≡ rowKey m q numbers (level - 1) node partial s) → RowLeast q keys
+        → (count : ℕ) (stopped : Bool) → stopped ≡ false
+        → Searching m q clip numbers allowance level node partial (keptOf count false t) 0 keys (keptOf count stopped t) limits₀
+    start allowance keys wide each rows count stopped f =
+        let g : (s : ℕ) → s < 2 ^ q → getD keys s 0 ≡ keyOf v (level - 1) node partial s =
+        λ s h. each s h ∙ key-by m q numbers (w .asked .vector) clip (level - 1) node partial s row-inside
+        in
         record {
-          room = omega (arith, ap length e, filled-length (rowKey m q numbers (level - 1) node partial) (2 ^ q) old);
+          room = wide;
+          rows = rows;
           lowest = w .lowest;
           running = f;
-          held = keys-held v level inner inside in-range partial (w .bounded) node (2 ^ q) refl old keys room g;
-          left = rw f (rest-start v (2 ^ q) refl allowance node level inner partial old keys room g (keptOf count false t));
+          held = keys-held v level inner inside in-range partial (w .bounded) node keys g;
+          left = rw f
+              (rest-start v (2 ^ q) refl allowance node level inner partial keys (omega (arith, keys-room keys wide)) g (keptOf count false t));
           limited = w .limited;
         }
 
-    module _ {allowance count₀ tried : ℕ} {keys : List ℕ} {k : Kept} {limits : List ℕ} {widest : ℕ}
-        (h : Searching m q clip numbers allowance level node partial (keptOf count₀ false t) tried keys k limits widest)
+    module _ {allowance count₀ tried : ℕ} {keys : List ℕ} {k : Kept} {limits : List ℕ}
+        (h : Searching m q clip numbers allowance level node partial (keptOf count₀ false t) tried keys k limits)
         (n : ℕ) (en : n ≡ 2 ^ q) where
       -- No child is left
       pub done : n ≤ tried → k ≡ below v allowance level node partial (keptOf count₀ false t)
@@ -143,8 +171,8 @@ module _ {m q clip : ℕ} {numbers : List ℤ} {level node partial : ℕ} {t : T
 
       -- A child is tried
       pub turn-of : tried < n → {after : List ℕ} {level′ child d : ℕ} → NextChild m q level node keys after level′ child d → (r : Verdict)
-          → r ≡ verdictBy (m * q) (k .count) (k .taken .label) (k .taken .best) widest limits allowance d (level′ * q) child
-          → Turn m q clip numbers allowance level node partial (keptOf count₀ false t) limits₀ widest₀ tried keys k limits widest after level′
+          → r ≡ verdictBy m q (k .count) (k .taken .label) (k .taken .best) limits allowance level d level′ child
+          → Turn m q clip numbers allowance level node partial (keptOf count₀ false t) limits₀ tried keys k limits after level′
           child d r
       turn-of more next r er = record {
         asked = w;
@@ -156,9 +184,9 @@ module _ {m q clip : ℕ} {numbers : List ℤ} {level node partial : ℕ} {t : T
       }
 
 -- What each verdict makes of it
-module _ {m q clip : ℕ} {numbers : List ℤ} {allowance level node partial : ℕ} {from : Kept} {limits₀ : List ℕ} {widest₀ tried : ℕ}
-    {keys : List ℕ} {k : Kept} {limits : List ℕ} {widest : ℕ} {after : List ℕ} {level′ child d : ℕ} {r : Verdict}
-    (f : Turn m q clip numbers allowance level node partial from limits₀ widest₀ tried keys k limits widest after level′ child d r) where
+module _ {m q clip : ℕ} {numbers : List ℤ} {allowance level node partial : ℕ} {from : Kept} {limits₀ : List ℕ} {tried : ℕ}
+    {keys : List ℕ} {k : Kept} {limits : List ℕ} {after : List ℕ} {level′ child d : ℕ} {r : Verdict}
+    (f : Turn m q clip numbers allowance level node partial from limits₀ tried keys k limits after level′ child d r) where
   -- Its symbol
   abbrev s : ℕ
   s = leastFirst keys (2 ^ q)
@@ -166,10 +194,10 @@ module _ {m q clip : ℕ} {numbers : List ℤ} {allowance level node partial : �
   abbrev at : Vector
   at = vectorAt m q clip numbers
 
-  abbrev w : WalkAsked m q clip numbers level node partial (from .taken) limits₀ widest₀
+  abbrev w : WalkAsked m q clip numbers level node partial (from .taken) limits₀
   w = f .asked
 
-  abbrev h : Searching m q clip numbers allowance level node partial from tried keys k limits widest
+  abbrev h : Searching m q clip numbers allowance level node partial from tried keys k limits
   h = f .searching
 
   low : getD keys s 0 ≤ largestPartial at (level - 1)
@@ -179,7 +207,7 @@ module _ {m q clip : ℕ} {numbers : List ℤ} {allowance level node partial : �
   child-is = child-by at level (f .inner) (inside w) m node s child (sym (streams w)) (f .next .number)
 
   -- What the search below the child is asked
-  pub child-asked : WalkAsked m q clip numbers level′ child d (k .taken) limits widest
+  pub child-asked : WalkAsked m q clip numbers level′ child d (k .taken) limits
   child-asked = rw (f .next .inside, f .next .least) (record {
     asked = w .asked;
     inside = omega (arith, w .inside);
@@ -190,37 +218,53 @@ module _ {m q clip : ℕ} {numbers : List ℤ} {allowance level node partial : �
     limited = h .limited;
   })
 
-  verdict-is : r ≡ verdictBy (m * q) (k .count) (k .taken .label) (k .taken .best) widest limits allowance (getD keys s 0) ((level - 1) * q) child
+  verdict-is : r ≡ verdictBy m q (k .count) (k .taken .label) (k .taken .best) limits allowance level (getD keys s 0) (level - 1) child
   verdict-is =
       f .verdict
-      ∙ ap₂ (λ (x y : ℕ). verdictBy (m * q) (k .count) (k .taken .label) (k .taken .best) widest limits allowance x (y * q) child)
+      ∙ ap₂ (λ (x y : ℕ). verdictBy m q (k .count) (k .taken .label) (k .taken .best) limits allowance level x y child)
       (f .next .least) (f .next .inside)
 
   abbrev Tests : Verdict → Type 0
   Tests x =
-      Says x (beyond at (k .taken) (getD keys s 0)) (passing at (k .taken) (getD keys s 0) ((level - 1) * q) child)
+      Says x (passing at (k .taken) (getD keys s 0) ((level - 1) * q) child) (ltb (getD keys s 0) (getD limits (firstPlace level) 0))
       (ltb (k .count) allowance)
 
   tests : (x : Verdict) → r ≡ x → Tests x
-  unfolding verdictOf
+  unfolding verdictBy
   tests x e =
-      subst Tests
-      (sym (verdict-by at (k .taken) limits widest (h .limited) (m * q) (label-bits w) (k .count) allowance (getD keys s 0)
-      ((level - 1) * q) child) ∙ sym verdict-is ∙ e)
-      (says (beyond at (k .taken) (getD keys s 0)) (passing at (k .taken) (getD keys s 0) ((level - 1) * q) child)
-      (ltb (k .count) allowance))
+      rw (passing-by at (k .taken) limits (h .limited) m (sym (streams w)) (level - 1) child (omega (arith, w .inside)) (getD keys s 0))
+      (subst
+      (λ (y : Verdict).
+      Says y (passesBy m q (k .taken .label) (k .taken .best) limits (getD keys s 0) (level - 1) child)
+      (ltb (getD keys s 0) (getD limits (firstPlace level) 0)) (ltb (k .count) allowance)) (sym verdict-is ∙ e)
+      (says (passesBy m q (k .taken .label) (k .taken .best) limits (getD keys s 0) (level - 1) child)
+      (ltb (getD keys s 0) (getD limits (firstPlace level) 0)) (ltb (k .count) allowance)))
 
-  -- The siblings end
-  pub ended : r ≡ Ended → (k ≡ below at allowance level node partial from) × Limited at (k .taken) limits widest
+  -- The siblings end: the node itself would not pass with the child's partial metric
+  parent-fails : r ≡ Ended → passing at (k .taken) (getD keys s 0) (level * q) node ≡ false
+  parent-fails e =
+      let x = tests Ended e in
+      node-fails at (k .taken) limits (h .limited) m (sym (streams w)) level node s (getD keys s 0) (f .inner) (w .inside)
+      (node-placed w (f .inner)) (w .asked .vector .bits) (symbol-inside keys q (2 ^ q) s refl refl)
+      (ap (passing at (k .taken) (getD keys s 0) ((level - 1) * q)) (sym number) ∙ sym (x .0)) (ltb-false _ _ (x .1))
+    where
+      number : child ≡ s * 2 ^ ((m - level) * q) + node
+      number = f .next .number
+
+  pub ended : r ≡ Ended → (k ≡ below at allowance level node partial from) × Limited at (k .taken) limits
   ended e =
-      let top = le-of-lt (lt-of-le-of-lt low (partial-low at (in-range w) (level - 1))) in (
-        sym (h .left ∙ rest-beyond at (2 ^ q) refl allowance node (level - 1) (2 ^ q - tried) keys k s refl top (tests Ended e)),
+      let top = le-of-lt (lt-of-le-of-lt low (partial-low at (in-range w) (level - 1))) in
+      let up : level ≡ suc (level - 1) = omega (arith, f .inner) in (
+        sym (h .left
+            ∙ rest-beyond at allowance node (level - 1) (2 ^ q - tried) keys k (omega (arith, inside w, f .inner))
+            (subst (λ (l : ℕ). node < 2 ^ chosen at l) up (w .placed)) top
+            (subst (λ (l : ℕ). false ≡ passing at (k .taken) (getD keys s 0) (l * q) node) up (sym (parent-fails e)))),
         h .limited,
       )
 
   -- The allowance is used up
   pub halts : r ≡ Stop
-      → (keptOf (k .count) true (k .taken) ≡ below at allowance level node partial from) × Limited at (k .taken) limits widest
+      → (keptOf (k .count) true (k .taken) ≡ below at allowance level node partial from) × Limited at (k .taken) limits
   halts e =
       let x = tests Stop e in (
         rest-halted at (2 ^ q) refl allowance node (level - 1) tried keys k (f .more) s refl child child-is (x .0)
@@ -229,22 +273,26 @@ module _ {m q clip : ℕ} {numbers : List ℤ} {allowance level node partial : �
       )
 
   -- One child more is tried, and its key is overwritten
-  next-held : Held above (2 ^ q) (largestPartial at (level - 1)) (tried + 1) after
-  next-held = rw (f .next .tried) (held-set (h .held) s)
+  next-same : Same (2 ^ q) (set keys s above) after
+  next-same = took-same (f .next .tried)
 
-  next-room : level * 2 ^ q ≤ length after
+  next-held : Held above (2 ^ q) (largestPartial at (level - 1)) (tried + 1) after
+  next-held = held-same next-same (held-set (h .held) s)
+
+  next-room : level * keyCount q ≤ length after
   next-room = omega (arith, h .room, next-length (f .next))
 
   -- The child is cut
-  pub cut : r ≡ Cut → Searching m q clip numbers allowance level node partial from (tried + 1) after k limits widest
+  pub cut : r ≡ Cut → Searching m q clip numbers allowance level node partial from (tried + 1) after k limits
   cut e = record {
     room = next-room;
+    rows = f .next .tried .rows;
     lowest = h .lowest;
     running = h .running;
     held = next-held;
     left = h .left
         ∙ rest-cut at (2 ^ q) refl allowance node (level - 1) tried keys k (f .more) s refl child child-is (tests Cut e)
-        ∙ ap (λ (l : List ℕ). restOf at allowance (level - 1) node (2 ^ q - (tried + 1)) l k) (sym (f .next .tried));
+        ∙ rest-same at (2 ^ q) refl allowance node (level - 1) next-same (2 ^ q - (tried + 1)) k;
     limited = h .limited;
   }
 
@@ -265,21 +313,22 @@ module _ {m q clip : ℕ} {numbers : List ℤ} {allowance level node partial : �
           (h .running) counts u found x ∙ sym (h .left)
 
       -- or its subtree is finished, and the keys behind the children's are others
-      pub onward : u .stopped ≡ false → {limits : List ℕ} {widest : ℕ} → Limited at (u .taken) limits widest
-          → (tail : List ℕ) → length (take (2 ^ q) after ++ tail) ≡ length after
-          → Searching m q clip numbers allowance level node partial from (tried + 1) (take (2 ^ q) after ++ tail) u limits widest
+      pub onward : u .stopped ≡ false → {limits : List ℕ} → Limited at (u .taken) limits
+          → (tail : List ℕ) → length (take (keyCount q) after ++ tail) ≡ length after
+          → Searching m q clip numbers allowance level node partial from (tried + 1) (take (keyCount q) after ++ tail) u limits
       onward x l tail lt =
-          let wide : 2 ^ q ≤ length after = keys-room w (f .inner) after next-room in
-          let same = same-front (2 ^ q) after tail wide in
+          let wide : keyCount q ≤ length after = keys-room w (f .inner) after next-room in
+          let same = same-part (2 ^ q) (keyCount q) after tail (omega arith) wide in
           record {
             room = omega (arith, next-room);
+            rows = row-least-front q after tail (f .next .tried .rows);
             lowest = le-trans (kept-falls at allowance (level - 1) child (getD keys s 0) _ u found .best) (h .lowest);
             running = x;
             held = held-same same next-held;
             left = h .left
                 ∙ rest-onward at (2 ^ q) refl allowance node (level - 1) tried keys k (f .more) s refl child child-is
                 (tests Enter e .0) (h .running) counts u found x
-                ∙ ap (λ (l : List ℕ). restOf at allowance (level - 1) node (2 ^ q - (tried + 1)) l u) (sym (f .next .tried))
+                ∙ rest-same at (2 ^ q) refl allowance node (level - 1) next-same (2 ^ q - (tried + 1)) u
                 ∙ rest-same at (2 ^ q) refl allowance node (level - 1) same (2 ^ q - (tried + 1)) u;
             limited = l;
           }

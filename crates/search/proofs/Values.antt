@@ -1,12 +1,12 @@
 -- The soft values that code writes are the model's, and so is what a search of one vector returns.
-use Prim.Native.Nat.{ℕ, _+_, _*_, _^_, _≤_, _<_}
+use Prim.Native.Nat.{ℕ, _+_, _-_, _*_, _/_, _^_, _≤_, _<_}
 use mathlib.Core.Path.{_≡_, refl, sym, _∙_, ap, ap₂}
 use mathlib.Core.Bool.{Bool}
 use mathlib.Core.List.{List, map, _++_}
 use native.Mathlib.Nat.{le-refl, mul-le-mul}
 use native.Mathlib.Omega.{arith}
 use lib.IntN.{ℤ, natAbs}
-use lib.ListN.{length, getD, set, take, drop, replicate, length-replicate}
+use lib.ListN.{length, getD, set, drop, replicate, length-replicate}
 use lib.Pow.{pow-pos, pow-mono}
 use Rattle.model.specs.Metric.{Vector, labelBits, priorAt}
 use Rattle.model.specs.Soft.{softValue, places}
@@ -14,14 +14,13 @@ use Rattle.model.specs.Block.{Answer, answer}
 use Rattle.block.proofs.Places.{rows-count, all-priors-at}
 use Rattle.metric.specs.Rows.{VectorAsked}
 use Rattle.metric.specs.Parts.{filled}
-use Rattle.metric.proofs.Filled.{filled-length, filled-more, filled-same}
+use Rattle.metric.proofs.Filled.{filled-more, filled-same}
 use Rattle.pruning.specs.Program.{above, sideOf, Taken, takenOf, takenIn, limitsOf, keptOf, fresh, chosen, below, valueOf, answerOf}
-use Rattle.search.specs.Limits.{vectorAt, SearchAsked, limitAt, widestFrom, WalkAsked}
+use Rattle.siblings.specs.Rows.{keyCount}
+use Rattle.search.specs.Limits.{vectorAt, SearchAsked, minimaSize, Renewed, WalkAsked}
 use Rattle.search.specs.Values.{MinimaLow, Answered}
 use Rattle.pruning.proofs.Answer.{answered, soft-is}
 use Rattle.pruning.proofs.Bounds.{minima-low}
-use Rattle.pruning.proofs.Minima.{taken-kept, limits-are, limits-whole}
-use Rattle.search.proofs.Limits.{limited}
 use Rattle.search.proofs.Rows.{ranged}
 
 -- A label has at most 24 bits
@@ -59,39 +58,29 @@ write-more v zeros ones i before now r e f =
 
 module _ {m q clip : ℕ} {numbers : List ℤ} (h : SearchAsked m q clip numbers) where
   -- The keys of all levels have room
-  pub keys-many : m * 2 ^ q ≤ 256
-  keys-many = omega (arith, mul-le-mul (h .vector .streams) (pow-mono (h .vector .bits)))
+  pub keys-many : m * keyCount q ≤ 288
+  keys-many =
+      let half : q - q / 2 ≤ 3 = omega (arith, h .vector .bits) in
+      let most : keyCount q ≤ 72 = omega (arith, pow-mono (h .vector .bits), pow-mono half) in
+      omega (arith, mul-le-mul (h .vector .streams) most)
 
   -- The limits before the first leaf
-  abbrev first : List ℕ
-  first = filled (limitAt (vectorAt m q clip numbers) (fresh 24 .taken)) (m * q) (limitsOf (replicate 72 above))
-
-  module _ {minima : List ℕ} (e : minima ≡ take 48 (replicate 72 above) ++ first) where
-    abbrev v : Vector
-    v = vectorAt m q clip numbers
-
+  module _ {minima : List ℕ} (r : Renewed (vectorAt m q clip numbers) 0 above (replicate minimaSize above) minima) where
     pub root-fresh : takenIn 0 above minima ≡ fresh 24 .taken
-    root-fresh = ap (takenIn 0 above) e ∙ taken-kept (replicate 72 above) (length-replicate 72 above) first 0 above
+    root-fresh = r .kept
 
-    pub root-whole : length minima ≡ 72
-    root-whole =
-        ap length e
-        ∙ limits-whole (replicate 72 above) (length-replicate 72 above) first
-        (filled-length (limitAt v (fresh 24 .taken)) (m * q) (limitsOf (replicate 72 above)) ∙ length-replicate 24 above)
+    pub root-whole : length minima ≡ minimaSize
+    root-whole = r .size ∙ length-replicate minimaSize above
 
     -- What the walk from the root asks
-    pub root-asked : (widest : ℕ) → widest ≡ widestFrom (limitsOf minima) 0 (m * q)
-        → WalkAsked m q clip numbers m 0 0 (takenIn 0 above minima) (limitsOf minima) widest
-    root-asked widest f = record {
+    pub root-asked : WalkAsked m q clip numbers m 0 0 (takenIn 0 above minima) (limitsOf minima)
+    root-asked = record {
       asked = h;
       inside = le-refl m;
-      placed = pow-pos (chosen v m);
+      placed = pow-pos (chosen (vectorAt m q clip numbers) m);
       bounded = omega arith;
       lowest = le-refl above;
-      limited = rw root-fresh
-          (limited v (fresh 24 .taken) (m * q) (bits-are m q clip numbers) (limitsOf (replicate 72 above)) (limitsOf minima)
-          (omega (arith, few (h .vector), length-replicate 24 above))
-          (ap limitsOf e ∙ limits-are (replicate 72 above) (length-replicate 72 above) first) widest f);
+      limited = r .limited;
     }
 
   -- What the walk from the root has kept at the end

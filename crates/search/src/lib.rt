@@ -1,23 +1,26 @@
 // The search of one vector (document 01, "The walk"): the next child, the pass test, the leaves taken into the minima, the walk under an
 // allowance, and the soft values.
+use cutoff::Bounds;
+use metric::AXES;
 use metric::Node;
 use metric::Shape;
 ghost use mathlib.Core.Path.{_≡_};
-ghost use mathlib.Core.Bool.{true, false, cond, _||_};
-ghost use lib.Dec.{leb, ltb};
+ghost use mathlib.Core.Bool.{true, false, cond};
 ghost use Prim.Native.Nat.{_+_, _*_, _-_, _<_, _≤_, _^_, min};
 ghost use lib.IntN.{natAbs};
 ghost use lib.ListN.{length, getD, set, take};
 ghost use mathlib.Core.List.{_++_};
 ghost use Rattle.model.specs.Metric.{priorAt};
 ghost use Rattle.model.specs.Soft.{softValue};
-ghost use Rattle.model.specs.Block.{mostClip};
+ghost use Rattle.model.specs.Block.{mostStreams, mostWidth, mostClip};
 ghost use Rattle.metric.specs.Rows.{VectorAsked};
 ghost use Rattle.metric.specs.Tables.{Tabled};
 ghost use Rattle.metric.specs.Parts.{filled};
-ghost use Rattle.pruning.specs.Arrays.{leastFirst};
-ghost use Rattle.pruning.specs.Program.{above, sideOf, valueOf, takenIn, zerosOf, onesOf, limitsOf, keptOf, opens, reachOf, lowered, sooner, noted, below};
-ghost use Rattle.search.specs.Limits.{vectorFor, Asked, upOf, limitAt, widestFrom, Limited, letsBy, passingBy, verdictBy, WalkAsked, NextChild};
+ghost use Rattle.pruning.specs.Program.{above, sideOf, valueOf, takenIn, zerosOf, onesOf, limitsOf, keptOf, reachOf, lowered, sooner, noted, below};
+ghost use Rattle.reach.specs.Reach.{limitsSize};
+ghost use Rattle.siblings.specs.Rows.{keyCount, RowLeast};
+ghost use Rattle.search.specs.Limits.{vectorFor, Asked, upOf, limitAt, minimaSize, passesBy, Limited, Renewed, verdictBy, WalkAsked, NextChild};
+ghost use Rattle.search.specs.Expand.{BoundsOf, Expanded};
 ghost use Rattle.search.specs.Values.{MinimaLow, Answered};
 
 // What is done with the next child.
@@ -28,13 +31,12 @@ enum Verdict {
     Stop,
 }
 
-// What a search has kept, but for the minima: nodes counted, the mark, the best label with its metric, and the widest limit.
+// What a search has kept, but for the minima: nodes counted, the mark, and the best label with its metric.
 struct Kept {
     count: u32,
     stopped: bool,
     label: u32,
     best: u64,
-    widest: u64,
 }
 
 // Above every metric: an infinite least metric, and the key of a child that was tried.
@@ -52,35 +54,6 @@ pub struct Task {
 struct Best {
     label: u32,
     metric: u64,
-}
-
-// The place of the smallest of the first n keys, the first one of equals: the next child.
-fn least_first(keys: &[u64], n: usize) -> usize
-    requires { ⌜ (1 ≤ n) × (n ≤ length (now keys)) ⌝ }
-    ensures { λ r. ⌜ (r ≡ leastFirst (now (keys .entry)) n) × (r < n) ⌝ }
-{
-    let mut least = 0;
-    let mut k = 1;
-    while k < n {
-        if keys[k] < keys[least] {
-            least = k;
-        }
-        k += 1;
-    }
-    least
-}
-
-// Is bit i not yet chosen at the child, or chosen opposite to the best label's?
-fn is_open(n: usize, label: u32, free: usize, child: u32, i: usize) -> bool
-    requires { ⌜ (i < n) × (n ≤ 24) ⌝ }
-    ensures { λ r. ⌜ r ≡ opens n label free child i ⌝ }
-{
-    if i < free {
-        return true;
-    }
-    let ours = metric::bit_at(n, child, i);
-    let theirs = metric::bit_at(n, label, i);
-    ours != theirs
 }
 
 // B + C with the prior, by the sign that the best label's bit gives it.
@@ -159,7 +132,7 @@ fn note(n: usize, label: u32, d: u64, side: bool, least: &mut [u64])
 
 // The least metric at place i with the bit opposite to the best label's.
 fn opposite(bit: bool, minima: &[u64], i: usize) -> u64
-    requires { ⌜ (i < 24) × (length (now minima) ≡ 72) ⌝ }
+    requires { ⌜ (i < 24) × (length (now minima) ≡ minimaSize) ⌝ }
     ensures { λ r. ⌜ r ≡ getD (cond bit (zerosOf (now (minima .entry))) (onesOf (now (minima .entry)))) i 0 ⌝ }
 {
     if bit { minima[i] } else { minima[24 + i] }
@@ -176,7 +149,7 @@ fn prior_at(task: Task, numbers: &[i32], i: usize) -> i64
 
 // Bit i's limit.
 fn limit_at(task: Task, numbers: &[i32], best: Best, minima: &[u64], i: usize) -> u64
-    requires { ⌜ Asked task (now numbers) × (i < task .streams * task .width) × (best .metric ≤ above) × (length (now minima) ≡ 72) ⌝ }
+    requires { ⌜ Asked task (now numbers) × (i < task .streams * task .width) × (best .metric ≤ above) × (length (now minima) ≡ minimaSize) ⌝ }
     ensures { λ r. ⌜ r ≡ limitAt (vectorFor task (now (numbers .entry))) (takenIn (best .label) (best .metric) (now (minima .entry))) i ⌝ }
 {
     let bit = metric::bit_at(task.streams * task.width, best.label, i);
@@ -187,7 +160,7 @@ fn limit_at(task: Task, numbers: &[i32], best: Best, minima: &[u64], i: usize) -
 
 // The limits of all bits, behind their minima.
 fn limit_all(task: Task, numbers: &[i32], best: Best, minima: &mut [u64])
-    requires { ⌜ Asked task (now numbers) × (best .metric ≤ above) × (length (now minima) ≡ 72) ⌝ }
+    requires { ⌜ Asked task (now numbers) × (best .metric ≤ above) × (length (now minima) ≡ minimaSize) ⌝ }
     ensures { λ _. ⌜ now (minima .exit)
         ≡ take 48 (now (minima .entry))
         ++ filled (limitAt (vectorFor task (now (numbers .entry))) (takenIn (best .label) (best .metric) (now (minima .entry))))
@@ -202,122 +175,70 @@ fn limit_all(task: Task, numbers: &[i32], best: Best, minima: &mut [u64])
     }
 }
 
-// The widest of the first n limits.
-fn widest_of(limits: &[u64], n: usize) -> u64
-    requires { ⌜ n ≤ length (now limits) ⌝ }
-    ensures { λ r. ⌜ r ≡ widestFrom (now (limits .entry)) 0 n ⌝ }
+// The limits of all bits and what they give, behind the minima.
+fn renew_limits(task: Task, numbers: &[i32], best: Best, minima: &mut [u64])
+    requires { ⌜ Asked task (now numbers) × (best .metric ≤ above) × (length (now minima) ≡ minimaSize) ⌝ }
+    ensures { λ _. ⌜ Renewed (vectorFor task (now (numbers .entry))) (best .label) (best .metric) (now (minima .entry)) (now (minima .exit)) ⌝ }
 {
-    let mut widest: u64 = 0;
-    let mut i = 0;
-    while i < n {
-        let limit = limits[i];
-        if widest < limit {
-            widest = limit;
-        }
-        i += 1;
-    }
-    widest
+    limit_all(task, numbers, best, minima);
+    reach::fill(task.streams, task.width, &mut minima[48..]);
 }
 
-// Does bit i let a child of partial metric d pass? Most children fail at the limit.
-fn lets_pass(
-    n: usize,
-    label: u32,
-    limits: &[u64],
-    d: u64,
-    free: usize,
-    child: u32,
-    i: usize,
-) -> bool
-    requires { ⌜ (i < n) × (n ≤ 24) × (n ≤ length (now limits)) ⌝ }
-    ensures { λ r. ⌜ r ≡ letsBy n label (now (limits .entry)) d free child i ⌝ }
+// May a node of partial metric d be walked? `level` streams are not chosen yet, and `bits` are those that are.
+fn passes(task: Task, kept: Kept, limits: &[u64], d: u64, level: usize, bits: u32) -> bool
+    requires { ⌜ (task .streams ≤ mostStreams) × (task .width ≤ mostWidth) × (level ≤ task .streams) × (length (now limits) ≡ limitsSize) ⌝ }
+    ensures { λ r. ⌜ r ≡ passesBy (task .streams) (task .width) (kept .label) (kept .best) (now (limits .entry)) d level bits ⌝ }
 {
-    if limits[i] <= d {
-        return false;
-    }
-    is_open(n, label, free, child, i)
-}
-
-// May a child of partial metric d be walked?
-fn passes(n: usize, label: u32, best: u64, limits: &[u64], d: u64, free: usize, child: u32) -> bool
-    requires { ⌜ (n ≤ 24) × (n ≤ length (now limits)) ⌝ }
-    ensures { λ r. ⌜ r ≡ passingBy n label best (now (limits .entry)) d free child ⌝ }
-{
-    if d <= best {
+    if d <= kept.best {
         return true;
     }
-    let mut i = 0;
-    while i < n {
-        if lets_pass(n, label, limits, d, free, child, i) {
-            return true;
-        }
-        i += 1;
-    }
-    false
-}
-
-// Can a child of partial metric d or more pass at all?
-fn is_within(d: u64, least: u64, widest: u64) -> bool
-    ensures { λ r. ⌜ r ≡ (leb d least || ltb d widest) ⌝ }
-{
-    if d <= least {
+    if d < limits[24 + level] {
         return true;
     }
-    d < widest
+    d < reach::chosen(task.streams, task.width, limits, level, bits ^ kept.label)
 }
 
-// What is done with the next child.
-fn judge(task: Task, kept: Kept, limits: &[u64], child: Node) -> Verdict
-    requires { ⌜ (task .streams * task .width ≤ 24) × (task .streams * task .width ≤ length (now limits))
-        × (child .level * task .width ≤ 24) ⌝ }
+// What is done with the next child, of a node with `level` streams to choose. Where a child fails the pass test and is not below any limit of
+// the streams that its parent has not chosen, no later child passes.
+fn judge(task: Task, kept: Kept, limits: &[u64], level: usize, child: Node) -> Verdict
+    requires { ⌜ (task .streams ≤ mostStreams) × (task .width ≤ mostWidth) × (level ≤ task .streams) × (child .level ≤ task .streams)
+        × (length (now limits) ≡ limitsSize) ⌝ }
     ensures { λ r. ⌜ r
-        ≡ verdictBy (task .streams * task .width) (kept .count) (kept .label) (kept .best) (kept .widest) (now (limits .entry))
-        (task .allowance) (child .partial) (child .level * task .width) (child .bits) ⌝ }
+        ≡ verdictBy (task .streams) (task .width) (kept .count) (kept .label) (kept .best) (now (limits .entry)) (task .allowance) level
+        (child .partial) (child .level) (child .bits) ⌝ }
 {
-    if !is_within(child.partial, kept.best, kept.widest) {
-        return Verdict::Ended;
+    if passes(task, kept, limits, child.partial, child.level, child.bits) {
+        if kept.count < task.allowance {
+            return Verdict::Enter;
+        }
+        return Verdict::Stop;
     }
-    let n = task.streams * task.width;
-    let free = child.level * task.width;
-    if !passes(
-        n,
-        kept.label,
-        kept.best,
-        limits,
-        child.partial,
-        free,
-        child.bits,
-    ) {
+    if child.partial < limits[24 + level] {
         return Verdict::Cut;
     }
-    if kept.count < task.allowance {
-        return Verdict::Enter;
-    }
-    Verdict::Stop
+    Verdict::Ended
 }
 
 // A leaf is taken into the best label, the minima and the limits.
 fn take_leaf(task: Task, leaf: Node, kept: Kept, numbers: &[i32], minima: &mut [u64]) -> Kept
-    requires { ⌜ Asked task (now numbers) × (leaf .partial ≤ above) × (kept .best ≤ above) × (length (now minima) ≡ 72) ⌝ }
+    requires { ⌜ Asked task (now numbers) × (leaf .partial ≤ above) × (kept .best ≤ above) × (length (now minima) ≡ minimaSize) ⌝ }
     ensures { λ r. ⌜ (keptOf (r .count) (r .stopped) (takenIn (r .label) (r .best) (now (minima .exit)))
         ≡ keptOf (kept .count) (kept .stopped)
         (noted (vectorFor task (now (numbers .entry))) (leaf .bits) (leaf .partial)
         (takenIn (kept .label) (kept .best) (now (minima .entry)))))
         × Limited (vectorFor task (now (numbers .entry))) (takenIn (r .label) (r .best) (now (minima .exit)))
-        (limitsOf (now (minima .exit))) (r .widest) × (length (now (minima .exit)) ≡ 72) ⌝ }
+        (limitsOf (now (minima .exit))) × (length (now (minima .exit)) ≡ minimaSize) ⌝ }
 {
     let n = task.streams * task.width;
     note(n, leaf.bits, leaf.partial, false, &mut minima[..24]);
     note(n, leaf.bits, leaf.partial, true, &mut minima[24..48]);
     let best = better(leaf.partial, leaf.bits, kept.best, kept.label);
-    limit_all(task, numbers, best, minima);
-    let widest = widest_of(&minima[48..], n);
+    renew_limits(task, numbers, best, minima);
     Kept {
         count: kept.count,
         stopped: kept.stopped,
         label: best.label,
         best: best.metric,
-        widest,
     }
 }
 
@@ -331,49 +252,101 @@ fn with_symbol(symbol: usize, bits: usize, node: u32) -> u32
 
 // The next child, the first of the smallest keys, which is then above every metric.
 fn next_child(task: Task, node: Node, keys: &mut [u64]) -> Node
-    requires { ⌜ (task .width ≤ 6) × (2 ^ task .width ≤ length (now keys)) × (0 < node .level) × (node .level ≤ task .streams)
+    requires { ⌜ (task .width ≤ mostWidth) × RowLeast (task .width) (now keys) × (0 < node .level) × (node .level ≤ task .streams)
         × ((task .streams - node .level) * task .width ≤ 18) × (node .bits < 2 ^ ((task .streams - node .level) * task .width)) ⌝ }
     ensures { λ r. ⌜ NextChild (task .streams) (task .width) (node .level) (node .bits) (now (keys .entry)) (now (keys .exit))
         (r .level) (r .bits) (r .partial) ⌝ }
 {
-    let s = least_first(keys, 1 << task.width);
-    let partial = keys[s];
-    keys[s] = ABOVE;
-    let bits = with_symbol(s, (task.streams - node.level) * task.width, node.bits);
+    let child = siblings::take(task.width, keys);
+    let bits = with_symbol(
+        child.symbol,
+        (task.streams - node.level) * task.width,
+        node.bits,
+    );
     Node {
         level: node.level - 1,
         bits,
-        partial,
+        partial: child.key,
     }
 }
 
 // One node more is counted.
 fn counted(kept: Kept) -> Kept
     requires { ⌜ kept .count < 2 ^ 32 - 1 ⌝ }
-    ensures { λ r. ⌜ (r .count ≡ kept .count + 1) × (r .stopped ≡ kept .stopped) × (r .label ≡ kept .label) × (r .best ≡ kept .best)
-        × (r .widest ≡ kept .widest) ⌝ }
+    ensures { λ r. ⌜ (r .count ≡ kept .count + 1) × (r .stopped ≡ kept .stopped) × (r .label ≡ kept .label) × (r .best ≡ kept .best) ⌝ }
 {
     Kept {
         count: kept.count + 1,
         stopped: kept.stopped,
         label: kept.label,
         best: kept.best,
-        widest: kept.widest,
     }
 }
 
 // The allowance is used up.
 fn halted(kept: Kept) -> Kept
-    ensures { λ r. ⌜ (r .count ≡ kept .count) × (r .stopped ≡ true) × (r .label ≡ kept .label) × (r .best ≡ kept .best)
-        × (r .widest ≡ kept .widest) ⌝ }
+    ensures { λ r. ⌜ (r .count ≡ kept .count) × (r .stopped ≡ true) × (r .label ≡ kept .label) × (r .best ≡ kept .best) ⌝ }
 {
     Kept {
         count: kept.count,
         stopped: true,
         label: kept.label,
         best: kept.best,
-        widest: kept.widest,
     }
+}
+
+// The widest limits that a node's children are held against.
+fn bounds_of(task: Task, node: Node, kept: Kept, limits: &[u64]) -> Bounds
+    requires { ⌜ (task .streams ≤ mostStreams) × (task .width ≤ mostWidth) × (0 < node .level) × (node .level ≤ task .streams)
+        × (length (now limits) ≡ limitsSize) ⌝ }
+    ensures { λ r. ⌜ BoundsOf (task .streams) (task .width) (node .level) (node .bits) (kept .label) (kept .best) (now (limits .entry)) r ⌝ }
+{
+    Bounds {
+        best: kept.best,
+        free: limits[24 + (node.level - 1)],
+        chosen: reach::chosen(
+            task.streams,
+            task.width,
+            limits,
+            node.level,
+            node.bits ^ kept.label,
+        ),
+        cap: limits[24 + node.level],
+    }
+}
+
+// The keys of a node's children, by the parts of their two axes; false, with no key filled in, where all of them would be cut.
+fn expand(
+    task: Task,
+    node: Node,
+    kept: Kept,
+    numbers: &[i32],
+    tables: &[i32; 128],
+    limits: &[u64],
+    keys: &mut [u64],
+) -> bool
+    requires { ⌜ VectorAsked (task .streams) (task .width) (now numbers)
+        × Tabled (task .streams) (task .width) (now numbers) (now tables)
+        × (0 < node .level) × (node .level ≤ task .streams) × (node .partial < 2 ^ 61) × (keyCount (task .width) ≤ length (now keys))
+        × (length (now limits) ≡ limitsSize) ⌝ }
+    ensures { λ r. ⌜ Expanded (task .streams) (task .width) (now (numbers .entry)) (node .level) (node .bits) (node .partial) (kept .label)
+        (kept .best) (now (limits .entry)) (now (keys .entry)) (now (keys .exit)) r ⌝ }
+{
+    let q = task.width;
+    let shape = Shape {
+        streams: task.streams,
+        width: q,
+    };
+    let mut axes = [0u64; AXES];
+    metric::measure(shape, node, numbers, tables, &mut axes);
+    let bounds = bounds_of(task, node, kept, limits);
+    let own = metric::symbol_at(kept.label, q, (task.streams - node.level) * q);
+    let at = 32 + (node.level - 1) * 16;
+    if cutoff::shuts(q, node.partial, &axes, bounds, &limits[at..at + 16], own) {
+        return false;
+    }
+    siblings::fill(q, node.partial, &axes, keys);
+    true
 }
 
 // The search below a node: its children in order, each cut, or searched, until they end. Their keys stand in front of those of the levels
@@ -388,29 +361,28 @@ fn walk(
     keys: &mut [u64],
 ) -> Kept
     requires { ⌜ WalkAsked (task .streams) (task .width) (task .clip) (now numbers) (node .level) (node .bits) (node .partial)
-        (takenIn (kept .label) (kept .best) (now minima)) (limitsOf (now minima)) (kept .widest)
+        (takenIn (kept .label) (kept .best) (now minima)) (limitsOf (now minima))
         × (kept .stopped ≡ false) × Tabled (task .streams) (task .width) (now numbers) (now tables)
-        × (length (now minima) ≡ 72) × (node .level * 2 ^ task .width ≤ length (now keys)) ⌝ }
+        × (length (now minima) ≡ minimaSize) × (node .level * keyCount (task .width) ≤ length (now keys)) ⌝ }
     ensures { λ r. ⌜ (keptOf (r .count) (r .stopped) (takenIn (r .label) (r .best) (now (minima .exit)))
         ≡ below (vectorFor task (now (numbers .entry))) (task .allowance) (node .level) (node .bits) (node .partial)
         (keptOf (kept .count) false (takenIn (kept .label) (kept .best) (now (minima .entry)))))
         × Limited (vectorFor task (now (numbers .entry))) (takenIn (r .label) (r .best) (now (minima .exit)))
-        (limitsOf (now (minima .exit))) (r .widest) × (length (now (minima .exit)) ≡ 72) ⌝ }
+        (limitsOf (now (minima .exit))) × (length (now (minima .exit)) ≡ minimaSize) ⌝ }
 {
     if node.level == 0 {
         return take_leaf(task, node, kept, numbers, minima);
     }
-    let shape = Shape {
-        streams: task.streams,
-        width: task.width,
-    };
-    metric::children(shape, node, numbers, tables, keys);
+    if !expand(task, node, kept, numbers, tables, &minima[48..], keys) {
+        return kept;
+    }
     let n: usize = 1 << task.width;
+    let places = n + (1 << (task.width - task.width / 2));
     let mut k = kept;
     let mut tried = 0;
     while tried < n {
         let child = next_child(task, node, keys);
-        match judge(task, k, &minima[48..], child) {
+        match judge(task, k, &minima[48..], node.level, child) {
             Verdict::Ended => return k,
             Verdict::Stop => return halted(k),
             Verdict::Enter => {
@@ -421,7 +393,7 @@ fn walk(
                     numbers,
                     tables,
                     minima,
-                    &mut keys[n..],
+                    &mut keys[places..],
                 );
                 if k.stopped {
                     return k;
@@ -450,7 +422,7 @@ fn soft_value(one: u64, zero: u64, prior: i64, clip: u32) -> i32
 
 // The soft values of all bits.
 fn write_soft(task: Task, numbers: &[i32], minima: &[u64], soft: &mut [i32; 24])
-    requires { ⌜ Asked task (now numbers) × MinimaLow (zerosOf (now minima)) (onesOf (now minima)) × (length (now minima) ≡ 72) ⌝ }
+    requires { ⌜ Asked task (now numbers) × MinimaLow (zerosOf (now minima)) (onesOf (now minima)) × (length (now minima) ≡ minimaSize) ⌝ }
     ensures { λ _. ⌜ now (soft .exit)
         ≡ filled (valueOf (vectorFor task (now (numbers .entry))) (takenIn 0 0 (now (minima .entry))))
         (task .streams * task .width) (now (soft .entry)) ⌝ }
@@ -483,26 +455,24 @@ pub fn search_vector(task: Task, numbers: &[i32], soft: &mut [i32; 24]) -> Found
     };
     let mut tables = [0i32; 128];
     metric::prepare(shape, numbers, &mut tables);
-    let mut minima = [ABOVE; 72];
+    let mut minima = [ABOVE; 144];
     let none = Best {
         label: 0,
         metric: ABOVE,
     };
-    limit_all(task, numbers, none, &mut minima);
-    let widest = widest_of(&minima[48..], task.streams * task.width);
+    renew_limits(task, numbers, none, &mut minima);
     let start = Kept {
         count: 0,
         stopped: false,
         label: 0,
         best: ABOVE,
-        widest,
     };
     let root = Node {
         level: task.streams,
         bits: 0,
         partial: 0,
     };
-    let mut keys = [0u64; 256];
+    let mut keys = [0u64; 288];
     let end = walk(task, root, start, numbers, &tables, &mut minima, &mut keys);
     write_soft(task, numbers, &minima, soft);
     Found {

@@ -13,11 +13,11 @@ use Rattle.metric.proofs.fill_children.Statement.{statement}
 use Rattle.metric.proofs.fill_children.Tie as tie
 
 abbrev Inv-loop : tie.InvT-loop
-Inv-loop q partial re im keys₀ rows n a₀ keys a =
-    (rows ≡ 2 ^ (q - q / 2)) × (n ≡ 2 ^ (q / 2)) × (a ≤ rows) × (keys ≡ filled (childrenOf q partial re im) (a * n) keys₀)
+Inv-loop q partial axes keys₀ rows n a₀ keys a =
+    (rows ≡ 2 ^ (q - q / 2)) × (n ≡ 2 ^ (q / 2)) × (a ≤ rows) × (keys ≡ filled (childrenOf q partial axes) (a * n) keys₀)
 
 abbrev μ-loop : tie.MeasureT-loop
-μ-loop q partial re im keys₀ rows n a₀ keys a = rows - a
+μ-loop q partial axes keys₀ rows n a₀ keys a = rows - a
 
 loop-holds : tie.Need-loop-holds Inv-loop μ-loop
 unfolding filled
@@ -54,7 +54,7 @@ fill-row-requires c κs =
     let i = c .before .before in
     let l = i .before in
     let s = l .before .before in (
-      omega (arith, s .pre .1, s .pre .2 (l .loop .a)),
+      omega (arith, s .pre .1, s .pre .3 (l .loop .a)),
       s .pre .3,
       omega (arith, l .loop .inv .1, few-columns l),
       omega (arith, l .loop .inv .1, room i, same-length l, s .pre .4),
@@ -67,7 +67,7 @@ loop-again c =
       l .loop .inv .0,
       l .loop .inv .1,
       omega (arith, c .before .before .before .before .before .loop-test .taken),
-      row-more (s .q) (s .partial) (s .re .now) (s .im .now) (l .loop .a) _ (s .keys .now) (l .loop .keys) _ (l .loop .inv .1)
+      row-more (s .q) (s .partial) (s .axes .now) (l .loop .a) _ (s .keys .now) (l .loop .keys) _ (l .loop .inv .1)
           (l .loop .inv .3) (c .before .before .fill-row .ensures),
     )
 
@@ -90,8 +90,8 @@ fill-children-spec =
     (λ c. omega (arith, c .before .pre .0))
     loop-holds
     (λ c. omega (arith, few-rows c))
-    few-rows
-    (λ c. let s = c .before .before .before .before in omega (arith, s .pre .1, s .pre .2 (c .before .before .loop .a)))
+    (λ c. omega (arith, few-rows c))
+    (λ c. let s = c .before .before .before .before in omega (arith, s .pre .1, s .pre .3 (c .before .before .loop .a)))
     (λ c. let h = c .before .before .before .before .pre .0 in omega (arith, room (c .before), pow-mono h))
     fill-row-requires
     (λ c. omega (arith, few-rows (c .before .before .before .before .before)))

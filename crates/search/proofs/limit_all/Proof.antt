@@ -7,7 +7,7 @@ use lib.ListN.{length, set, take, take-append-drop, length-drop}
 use Rattle.metric.specs.Parts.{filled}
 use Rattle.metric.proofs.Filled.{filled-more, filled-length}
 use Rattle.pruning.specs.Program.{Taken, takenIn, limitsOf}
-use Rattle.search.specs.Limits.{vectorFor, limitAt}
+use Rattle.search.specs.Limits.{vectorFor, limitAt, minimaSize}
 use Rattle.pruning.proofs.Minima.{taken-kept, limits-whole, limit-set}
 use Rattle.search.proofs.Values.{few}
 use Rattle.search.proofs.limit_all.Statement.{statement}
@@ -26,11 +26,12 @@ loop-holds : tie.Need-loop-holds Inv-loop μ-loop
 unfolding filled
 loop-holds c = (refl, omega arith, sym (take-append-drop 48 _))
 
-whole : (c : tie.At-loop Inv-loop μ-loop) → length (c .loop .minima) ≡ 72
+whole : (c : tie.At-loop Inv-loop μ-loop) → length (c .loop .minima) ≡ minimaSize
 whole c =
-    let l = c .before .before .before .args .minima .now in
+    let s = c .before .before .before in
+    let l = s .args .minima .now in
     ap length (c .loop .inv .2)
-    ∙ limits-whole l (c .before .before .before .pre .2) _ (filled-length _ _ (limitsOf l) ∙ omega (arith, length-drop 48 l, c .before .before .before .pre .2))
+    ∙ limits-whole l (omega (arith, s .pre .2)) _ (filled-length _ _ (limitsOf l) ∙ length-drop 48 l) ∙ s .pre .2
 
 loop-again : tie.Need-loop-again Inv-loop μ-loop
 loop-again c =
@@ -39,12 +40,13 @@ loop-again c =
     let a = s .args in
     let v = vectorFor (a .task) (a .numbers .now) in
     let f = limitAt v (takenIn (a .best .label) (a .best .metric) (a .minima .now)) in
-    let kept = taken-kept (a .minima .now) (s .pre .2) _ (a .best .label) (a .best .metric) in (
+    let wide : 48 ≤ length (a .minima .now) = omega (arith, s .pre .2) in
+    let kept = taken-kept (a .minima .now) wide _ (a .best .label) (a .best .metric) in (
       refl,
       omega arith,
       ap₂ (λ (x : List ℕ) (u : ℕ). set x (48 + l .loop .i) u) (l .loop .inv .2)
           (c .limit-at .ensures ∙ ap (λ (t : Taken). limitAt v t (l .loop .i)) (ap (takenIn (a .best .label) (a .best .metric)) (l .loop .inv .2) ∙ kept))
-          ∙ limit-set (a .minima .now) (s .pre .2) _ (l .loop .i) _
+          ∙ limit-set (a .minima .now) wide _ (l .loop .i) _
           ∙ ap (λ (x : List ℕ). take 48 (a .minima .now) ++ x) (filled-more f (l .loop .i) (limitsOf (a .minima .now))),
     )
 

@@ -1,0 +1,126 @@
+-- What the pass test reads off the array: the limits of a node's bits that are opposite to the best label's.
+use Prim.Native.Nat.{ℕ, zero, suc, _+_, _-_, _*_, _/_, _%_, _^_, _≤_, _<_, max}
+use mathlib.Core.Path.{_≡_, refl, sym, _∙_, ap, ap₂}
+use mathlib.Core.Bool.{Bool, true, false, cond, not, Bool·beq}
+use mathlib.Core.List.{List}
+use native.Mathlib.Nat.{mod-lt, suc-mul, add-mul, zero-mul, le-refl, mod-eq-of-lt}
+use native.Mathlib.Omega.{arith}
+use lib.Dec.{eqb}
+use lib.ListN.{getD}
+use lib.Bits.{bitXor, xor-shr, xor-mod}
+use lib.Pow.{pow-pos, high, low, field, mod-mod-pow}
+use Rattle.metric.specs.Parts.{bitOf}
+use Rattle.pruning.specs.Reach.{widestOf}
+use Rattle.pruning.proofs.Reach.{widest-split, widest-same, symbol-bit}
+use Rattle.reach.specs.Reach.{firstPlace, axisReach, streamReach, symbolOf, chosenReach, Reaches}
+use Rattle.reach.proofs.Streams.{stream-is}
+
+-- A bit of an exclusive or says that two bits are opposite
+digits-opposite : (x y : ℕ) → x < 2 → y < 2 → eqb (bitXor x y) 1 ≡ not (Bool·beq (eqb x 1) (eqb y 1))
+digits-opposite zero zero h k = refl
+digits-opposite zero (suc zero) h k = refl
+digits-opposite (suc zero) zero h k = refl
+digits-opposite (suc zero) (suc zero) h k = refl
+digits-opposite (suc (suc x)) y h k = absurd (omega arith)
+digits-opposite zero (suc (suc y)) h k = absurd (omega arith)
+digits-opposite (suc zero) (suc (suc y)) h k = absurd (omega arith)
+
+pub xor-opposite : (n a b i : ℕ) → bitOf n (bitXor a b) i ≡ not (Bool·beq (bitOf n a i) (bitOf n b i))
+unfolding bitOf
+xor-opposite n a b i =
+    let e = n - suc i in
+    ap (λ (y : ℕ). eqb y 1) (ap (λ (y : ℕ). y % 2) (xor-shr a b e) ∙ xor-mod (a / 2 ^ e) (b / 2 ^ e) 1)
+    ∙ digits-opposite (a / 2 ^ e % 2) (b / 2 ^ e % 2) (mod-lt (a / 2 ^ e) (pow-pos 1)) (mod-lt (b / 2 ^ e) (pow-pos 1))
+
+-- The limits of all bits are at least as wide as those of some
+widest-all : (pick : ℕ → Bool) (limit : ℕ → ℕ) (a n : ℕ) → widestOf pick limit a n ≤ widestOf (λ _. true) limit a n
+unfolding widestOf
+widest-all pick limit a zero = le-refl 0
+widest-all pick limit a (suc n) = go (pick a) (widest-all pick limit (suc a) n)
+  where
+    go : (b : Bool) → widestOf pick limit (suc a) n ≤ widestOf (λ _. true) limit (suc a) n
+        → max (cond b (limit a) 0) (widestOf pick limit (suc a) n) ≤ max (limit a) (widestOf (λ _. true) limit (suc a) n)
+    go true h = omega arith
+    go false h = omega arith
+
+-- No symbol of a stream reaches further than the streams up to it
+pub stream-wider : {q : ℕ} {limit : ℕ → ℕ} {limits : List ℕ} {k : ℕ} → Reaches q limit limits k
+    → (j s : ℕ) → j < k → s < 2 ^ q → streamReach q limits j s ≤ getD limits (firstPlace (suc j)) 0
+unfolding axisReach
+stream-wider {q} {limit} {limits} made j s h l =
+    let z : 0 + j * q ≡ j * q = omega arith in
+    let all : widestOf (λ _. true) limit 0 (suc j * q)
+    ≡ max (widestOf (λ _. true) limit 0 (j * q)) (widestOf (λ _. true) limit (j * q) q) =
+    ap (widestOf (λ _. true) limit 0) (suc-mul j q) ∙ rw z at (widest-split (λ _. true) limit 0 (j * q) q) in
+    omega (
+      arith,
+      stream-is q limit limits j s (made .entry j h) l,
+      widest-all (λ i. bitOf q s (i - j * q)) limit (j * q) q,
+      all,
+      made .first (suc j) h,
+    )
+
+-- What the streams from `level` on give, by the bits of the label
+module _ (m q : ℕ) {limit : ℕ → ℕ} {limits : List ℕ} (made : Reaches q limit limits m) (bits : ℕ) where
+  symbol-reach : (j : ℕ) → j < m → streamReach q limits j (symbolOf m q bits j) ≡ widestOf (bitOf (m * q) bits) limit (j * q) q
+  unfolding axisReach
+  symbol-reach j h =
+      stream-is q limit limits j (symbolOf m q bits j) (made .entry j h) (mod-lt (bits / 2 ^ ((m - suc j) * q)) (pow-pos q))
+      ∙ widest-same _ (bitOf (m * q) bits) limit limit (j * q) q
+      (λ i k l.
+      let e : i ≡ j * q + (i - j * q) = omega arith in
+      ap (λ (b : Bool). cond b (limit i) 0) (sym (ap (bitOf (m * q) bits) e ∙ symbol-bit m q bits j (i - j * q) h (omega arith))))
+
+  streams-are : (n level : ℕ) → level + n ≡ m
+      → widestOf (λ _. true) (λ j. streamReach q limits j (symbolOf m q bits j)) level n
+      ≡ widestOf (bitOf (m * q) bits) limit (level * q) (n * q)
+  unfolding widestOf
+  streams-are zero level e = rw (zero-mul q)
+  streams-are (suc n) level e =
+      let f : suc n * q ≡ q + n * q = omega (arith, suc-mul n q) in
+      let g : suc level * q ≡ level * q + q = suc-mul level q in
+      ap₂ max (symbol-reach level (omega arith))
+      (streams-are n (suc level) (omega arith) ∙ ap (λ (a : ℕ). widestOf (bitOf (m * q) bits) limit a (n * q)) g)
+      ∙ sym (ap (widestOf (bitOf (m * q) bits) limit (level * q)) f ∙ widest-split (bitOf (m * q) bits) limit (level * q) q (n * q))
+
+pub chosen-is : (m q : ℕ) {limit : ℕ → ℕ} {limits : List ℕ} → Reaches q limit limits m → (level bits : ℕ) → level ≤ m
+    → chosenReach m q limits level bits ≡ widestOf (bitOf (m * q) bits) limit (level * q) ((m - level) * q)
+unfolding chosenReach
+chosen-is m q made level bits h = streams-are m q made bits (m - level) level (omega arith)
+
+-- A symbol of what the last p bits are, by these alone
+symbol-same : (p q k x y : ℕ) → q + k ≤ p → x % 2 ^ p ≡ y % 2 ^ p → x / 2 ^ k % 2 ^ q ≡ y / 2 ^ k % 2 ^ q
+symbol-same p q k x y h e =
+    let f : p ≡ (p - (q + k)) + (q + k) = omega arith in
+    by-low x f ∙ ap (λ (z : ℕ). z % 2 ^ (q + k) / 2 ^ k) e ∙ sym (by-low y f)
+  where
+    by-low : (z : ℕ) → p ≡ (p - (q + k)) + (q + k) → z / 2 ^ k % 2 ^ q ≡ z % 2 ^ p % 2 ^ (q + k) / 2 ^ k
+    by-low z f =
+        sym
+        (ap (λ (n : ℕ). z % 2 ^ n % 2 ^ (q + k) / 2 ^ k) f ∙ ap (λ (n : ℕ). n / 2 ^ k) (mod-mod-pow z (p - (q + k)) (q + k))
+        ∙ field z q k)
+
+-- A child's bits: those of its own symbol, and its node's
+pub chosen-child : (m q : ℕ) (limits : List ℕ) (level node s label : ℕ) → level < m → node < 2 ^ ((m - suc level) * q) → s < 2 ^ q
+    → chosenReach m q limits level (bitXor (s * 2 ^ ((m - suc level) * q) + node) label)
+    ≡ max (streamReach q limits level (bitXor s (symbolOf m q label level))) (chosenReach m q limits (suc level) (bitXor node label))
+unfolding chosenReach widestOf
+chosen-child m q limits level node s label h few l =
+    let p = (m - suc level) * q in
+    let x = s * 2 ^ p + node in
+    let e : m - level ≡ suc (m - suc level) = omega arith in
+    let own : symbolOf m q (bitXor x label) level ≡ bitXor s (symbolOf m q label level) =
+    ap (λ (y : ℕ). y % 2 ^ q) (xor-shr x label p ∙ ap (λ (y : ℕ). bitXor y (label / 2 ^ p)) (high s p few))
+    ∙ xor-mod s (label / 2 ^ p) q ∙ ap (λ (y : ℕ). bitXor y (label / 2 ^ p % 2 ^ q)) (mod-eq-of-lt l) in
+    let lows : bitXor x label % 2 ^ p ≡ bitXor node label % 2 ^ p =
+    xor-mod x label p ∙ ap (λ (y : ℕ). bitXor y (label % 2 ^ p)) (low s p few ∙ sym (mod-eq-of-lt few)) ∙ sym (xor-mod node label p) in
+    ap (widestOf (λ _. true) (λ j. streamReach q limits j (symbolOf m q (bitXor x label) j)) level) e
+    ∙ ap₂ max (ap (streamReach q limits level) own)
+    (widest-same (λ _. true) (λ _. true) (λ j. streamReach q limits j (symbolOf m q (bitXor x label) j))
+    (λ j. streamReach q limits j (symbolOf m q (bitXor node label) j)) (suc level) (m - suc level)
+    (λ j k t. ap (streamReach q limits j) (symbol-same p q ((m - suc j) * q) (bitXor x label) (bitXor node label) (room j k t) lows)))
+  where
+    room : (j : ℕ) → suc level ≤ j → j < suc level + (m - suc level) → q + (m - suc j) * q ≤ (m - suc level) * q
+    room j k t =
+        let f : m - suc level ≡ (j - suc level) + suc (m - suc j) = omega arith in
+        omega (arith, ap (λ (n : ℕ). n * q) f, add-mul (j - suc level) (suc (m - suc j)) q, suc-mul (m - suc j) q)

@@ -1,0 +1,146 @@
+-- A stream's entries and the widest limit of the streams up to it: what filling them in makes of the array.
+use Prim.Native.Nat.{ℕ, suc, _+_, _-_, _*_, _/_, _%_, _^_, _≤_, _<_, max}
+use mathlib.Core.Path.{_≡_, sym, _∙_, ap, ap₂, subst}
+use mathlib.Core.Bool.{true}
+use mathlib.Core.List.{List}
+use mathlib.Core.Logic.{inl}
+use native.Mathlib.Decide.{decLt}
+use native.Mathlib.Nat.{ne-of-lt, ne-of-gt, mul-le-mul, suc-mul, zero-mul, mod-lt, not-suc-le-zero}
+use native.Mathlib.Numerals.{add-one}
+use native.Mathlib.Omega.{arith}
+use lib.ListN.{length, getD, set, length-set}
+use lib.Seq.{getD-set-same, getD-set-other}
+use lib.Pow.{pow-pos, pow-mono, shr-lt, ones-lt}
+use Rattle.model.specs.Block.{mostStreams, mostWidth}
+use Rattle.metric.specs.Tables.{Axis, axisBits}
+use Rattle.metric.specs.Tables.Axis.{real, imaginary}
+use Rattle.metric.proofs.Tables.{axis-few}
+use Rattle.pruning.specs.Program.{mostBits}
+use Rattle.pruning.specs.Reach.{widestOf}
+use Rattle.pruning.proofs.Reach.{widest-split, widest-same}
+use Rattle.reach.specs.Reach.{limitIn, limitsSize, firstPlace, entryPlace, axisStart, axisReach, streamReach}
+use Rattle.reach.specs.Reach.{Reaches, AxisFilled, StreamFilled}
+use Rattle.reach.proofs.Axes.{axis-same, all-ones, halves}
+
+-- A symbol's real half is a label of its axis
+pub real-half : (q s : ℕ) → s < 2 ^ q → s / 2 ^ (q / 2) < 2 ^ (q - q / 2)
+real-half q s h = let e : q ≡ q - q / 2 + q / 2 = omega arith in shr-lt (q - q / 2) (q / 2) (subst (λ (n : ℕ). s < 2 ^ n) e h)
+
+-- A symbol's reach is that of all its bits, by the entries of its two axes
+pub stream-is : (q : ℕ) (limit : ℕ → ℕ) (limits : List ℕ) (j s : ℕ)
+    → ((x : Axis) (g : ℕ) → g < 2 ^ axisBits q x
+    → getD limits (entryPlace j x + g) 0 ≡ axisReach limit (axisStart q j x) (axisBits q x) g) → s < 2 ^ q
+    → streamReach q limits j s ≡ axisReach limit (j * q) q s
+unfolding streamReach
+stream-is q limit limits j s entry h =
+    ap₂ max (entry real (s / 2 ^ (q / 2)) (real-half q s h)) (entry imaginary (s % 2 ^ (q / 2)) (mod-lt s (pow-pos (q / 2))))
+    ∙ halves limit (j * q) q s
+
+-- The bits of the first streams are within the array's
+pub bits-few : (q j : ℕ) → q ≤ mostWidth → j < mostStreams → j * q + q ≤ mostBits
+bits-few q j few inside = omega (arith, mul-le-mul inside few, suc-mul j q)
+
+-- The two axes are filled, one after the other
+module _ {q j : ℕ} {old one two : List ℕ} (few : q ≤ mostWidth) (inside : j < mostStreams) (room : length old ≡ limitsSize)
+    (first : AxisFilled old one (axisStart q j real) (axisBits q real) (entryPlace j real) (axisBits q real))
+    (second : AxisFilled one two (axisStart q j imaginary) (axisBits q imaginary) (entryPlace j imaginary) (axisBits q imaginary)) where
+  size : length two ≡ limitsSize
+  size = second .size ∙ first .size ∙ room
+
+  below : (i : ℕ) → i < entryPlace j real → getD two i 0 ≡ getD old i 0
+  below i h = second .kept i (inl (omega arith)) ∙ first .kept i (inl h)
+
+  entries : (x : Axis) (g : ℕ) → g < 2 ^ axisBits q x
+      → getD two (entryPlace j x + g) 0 ≡ axisReach (limitIn old) (axisStart q j x) (axisBits q x) g
+  entries real g h =
+      let e : axisStart q j real + (axisBits q real - axisBits q real) ≡ axisStart q j real = omega arith in
+      second .kept (entryPlace j real + g) (inl (omega (arith, pow-mono (axis-few q real few)))) ∙ first .each g h
+      ∙ ap (λ (i : ℕ). axisReach (limitIn old) i (axisBits q real) g) e
+  entries imaginary g h =
+      let e : axisStart q j imaginary + (axisBits q imaginary - axisBits q imaginary) ≡ axisStart q j imaginary = omega arith in
+      second .each g h ∙ ap (λ (i : ℕ). axisReach (limitIn one) i (axisBits q imaginary) g) e
+      ∙ axis-same (limitIn one) (limitIn old) (axisStart q j imaginary) (axisBits q imaginary) g
+      (λ i k l. first .kept i (inl (omega (arith, bits-few q j few inside))))
+
+  own : streamReach q two j (2 ^ q - 1) ≡ widestOf (λ _. true) (limitIn old) (j * q) q
+  own = stream-is q (limitIn old) two j (2 ^ q - 1) entries (ones-lt q) ∙ all-ones (limitIn old) (j * q) q
+
+  -- and then the widest limit of the streams up to it
+  pub stream-filled : (widest : ℕ) → widest ≡ max (getD two (firstPlace j) 0) (streamReach q two j (2 ^ q - 1))
+      → StreamFilled q old (set two (firstPlace (j + 1)) widest) j
+  stream-filled widest e = rw add-one (record {
+    size = length-set two (firstPlace (suc j)) widest ∙ second .size ∙ first .size;
+    before = λ i h. getD-set-other two (firstPlace (suc j)) i widest 0 (ne-of-lt (omega arith)) ∙ below i (omega arith);
+    earlier = λ i h k. getD-set-other two (firstPlace (suc j)) i widest 0 (ne-of-gt (omega arith)) ∙ below i k;
+    first = getD-set-same two (firstPlace (suc j)) widest 0 (omega (arith, size)) ∙ e ∙ ap₂ max (below (firstPlace j) (omega arith)) own;
+    entry = λ x g h. getD-set-other two (firstPlace (suc j)) (entryPlace j x + g) widest 0 (ne-of-gt (behind x g)) ∙ entries x g h;
+  })
+    where
+      behind : (x : Axis) (g : ℕ) → firstPlace (suc j) < entryPlace j x + g
+      behind real g = omega arith
+      behind imaginary g = omega arith
+
+-- While the streams are filled in: the limits are as before, and what the first j streams give is there
+pub record Filling (q : ℕ) (old now : List ℕ) (j : ℕ) : Type 0 where
+  pub same : (i : ℕ) → i < mostBits → getD now i 0 ≡ getD old i 0
+  pub made : Reaches q (limitIn old) now j
+
+-- Before the first stream
+pub reaches-none : (q : ℕ) (old : List ℕ) → length old ≡ limitsSize → Filling q old (set old mostBits 0) 0
+unfolding widestOf
+reaches-none q old room = record {
+  same = λ i h. getD-set-other old mostBits i 0 0 (ne-of-lt h);
+  made = record {
+    size = length-set old mostBits 0 ∙ room;
+    first = λ level h.
+        let e : level ≡ 0 = omega arith in
+        rw (e, zero-mul) (getD-set-same old mostBits 0 0 (omega arith));
+    entry = λ j h. absurd (not-suc-le-zero h);
+  };
+}
+
+-- One stream more
+module _ {q j : ℕ} (old : List ℕ) {now new : List ℕ} (few : q ≤ mostWidth) (inside : j < mostStreams) (so-far : Filling q old now j)
+    (filled : StreamFilled q now new j) where
+  firsts : (level : ℕ) → level ≤ suc j → Dec (level < suc j)
+      → getD new (firstPlace level) 0 ≡ widestOf (λ _. true) (limitIn old) 0 (level * q)
+  firsts level h (yes l) = filled .before (firstPlace level) (omega arith) ∙ so-far .made .first level (omega arith)
+  firsts level h (no l) =
+      let e : level ≡ suc j = omega arith in
+      let z : 0 + j * q ≡ j * q = omega arith in
+      let n : level * q ≡ j * q + q = ap (λ (k : ℕ). k * q) e ∙ suc-mul j q in
+      ap (λ (k : ℕ). getD new (firstPlace k) 0) e ∙ filled .first
+      ∙ ap₂ max (so-far .made .first j (omega arith))
+      (widest-same (λ _. true) (λ _. true) (limitIn now) (limitIn old) (j * q) q
+      (λ i k l. so-far .same i (omega (arith, bits-few q j few inside))))
+      ∙ sym (rw z at (widest-split (λ _. true) (limitIn old) 0 (j * q) q)) ∙ ap (widestOf (λ _. true) (limitIn old) 0) (sym n)
+
+  older : (i : ℕ) → i < j → (x : Axis) (g : ℕ) → g < 2 ^ axisBits q x
+      → getD new (entryPlace i x + g) 0 ≡ getD now (entryPlace i x + g) 0
+  older i h real g k =
+      filled .earlier (entryPlace i real + g) (omega arith) (omega (arith, pow-mono (axis-few q real few)))
+  older i h imaginary g k =
+      filled .earlier (entryPlace i imaginary + g) (omega arith) (omega (arith, pow-mono (axis-few q imaginary few)))
+
+  start : (x : Axis) → axisStart q j x + axisBits q x ≤ mostBits
+  start real = omega (arith, bits-few q j few inside)
+  start imaginary = omega (arith, bits-few q j few inside)
+
+  each : (i : ℕ) → i < suc j → (x : Axis) (g : ℕ) → g < 2 ^ axisBits q x → Dec (i < j)
+      → getD new (entryPlace i x + g) 0 ≡ axisReach (limitIn old) (axisStart q i x) (axisBits q x) g
+  each i h x g k (yes l) = older i l x g k ∙ so-far .made .entry i l x g k
+  each i h x g k (no l) =
+      let e : i ≡ j = omega arith in
+      rw e
+      (filled .entry x g k
+      ∙ axis-same (limitIn now) (limitIn old) (axisStart q j x) (axisBits q x) g (λ i k l. so-far .same i (omega (arith, start x))))
+
+  pub reaches-more : Filling q old new (j + 1)
+  reaches-more = rw add-one (record {
+    same = λ i h. filled .before i (omega arith) ∙ so-far .same i h;
+    made = record {
+      size = filled .size ∙ so-far .made .size;
+      first = λ level h. firsts level h (decLt level (suc j));
+      entry = λ i h x g k. each i h x g k (decLt i j);
+    };
+  })

@@ -1,0 +1,63 @@
+-- The invariant: the limits are as they were, and what the first j streams give is there. The array was one that had another number at the
+-- first place behind the limits, whatever that was.
+use mathlib.Core.Path.{_≡_, refl, sym, subst}
+use mathlib.Core.List.{List}
+use Prim.Native.Nat.{ℕ, _-_, _≤_, _<_}
+use native.Mathlib.Omega.{arith}
+use lib.ListN.{length, set}
+use Rattle.pruning.specs.Program.{mostBits}
+use Rattle.reach.specs.Reach.{limitIn, limitsSize, Reaches}
+use Rattle.reach.proofs.Streams.{Filling, reaches-none, reaches-more}
+use Rattle.reach.proofs.fill.Statement.{statement}
+use Rattle.reach.proofs.fill.Tie as tie
+
+abbrev Inv-loop : tie.InvT-loop
+Inv-loop m q limits₀ j₀ limits j =
+    (j ≤ m) × ((old : List ℕ) → limits₀ ≡ set old mostBits 0 → length old ≡ limitsSize → Filling q old limits j)
+
+abbrev μ-loop : tie.MeasureT-loop
+μ-loop m q limits₀ j₀ limits j = m - j
+
+loop-holds : tie.Need-loop-holds Inv-loop μ-loop
+loop-holds c =
+    let q = c .before .args .q in
+    (omega arith, λ old e room. subst (λ (x : List ℕ). Filling q old x 0) (sym e) (reaches-none q old room))
+
+so-far : (c : tie.At-loop Inv-loop μ-loop)
+    → let a = c .before .before .args in
+    Filling (a .q) (a .limits .now) (c .loop .limits) (c .loop .j)
+so-far c = let s = c .before .before in c .loop .inv .1 (s .args .limits .now) refl (s .pre .2)
+
+inside : (c : tie.In-loop Inv-loop μ-loop) → c .before .loop .j < 4
+inside c = omega (arith, c .before .before .before .pre .0, c .loop-test .taken)
+
+loop-again : tie.Need-loop-again Inv-loop μ-loop
+loop-again c =
+    let i = c .before .before .before .before in
+    let l = i .before in
+    let p = l .before .before .pre in (
+      omega (arith, i .loop-test .taken),
+      λ old e room. reaches-more old (p .1) (inside i) (l .loop .inv .1 old e room) (c .before .before .fill-stream .ensures),
+    )
+
+returns : tie.Need-returns Inv-loop μ-loop
+returns c =
+    let l = c .before in
+    let a = l .before .before .args in
+    let e : l .loop .j ≡ a .m = omega (arith, l .loop .inv .0, c .loop-test .left) in
+    subst (Reaches (a .q) (limitIn (a .limits .now)) (l .loop .limits)) e (so-far l .made)
+
+pub fill-spec : {M : Type 1} → statement M
+fill-spec =
+    tie.close
+    (tie.spec
+    Inv-loop
+    μ-loop
+    (λ c. omega arith)
+    loop-holds
+    (λ c κs. (c .before .before .before .before .pre .1, inside (c .before), so-far (c .before .before) .made .size))
+    (λ c. omega (arith, inside (c .before .before .before .before)))
+    (λ c. omega (arith, c .before .before .before .before .loop-test .taken))
+    loop-again
+    (λ c. omega (arith, so-far (c .before) .made .size, c .before .before .before .pre .2))
+    returns)

@@ -1,0 +1,78 @@
+-- What a label's limits give, in one array behind them: the widest limit of the first streams, for each number of these; and for each
+-- label of an axis the widest limit of the bits that are 1 in it.
+use Prim.Native.Nat.{ℕ, suc, _+_, _-_, _*_, _/_, _%_, _^_, _≤_, _<_, max}
+use mathlib.Core.Path.{_≡_}
+use mathlib.Core.Bool.{true}
+use mathlib.Core.List.{List}
+use mathlib.Core.Logic.{_⊎_}
+use lib.ListN.{length, getD}
+use Rattle.model.specs.Block.{mostStreams}
+use Rattle.metric.specs.Parts.{span, bitOf}
+use Rattle.metric.specs.Tables.{Axis, axisBits}
+use Rattle.metric.specs.Tables.Axis.{real, imaginary}
+use Rattle.pruning.specs.Program.{mostBits}
+use Rattle.pruning.specs.Reach.{widestOf}
+
+-- The places of the array: first each bit's limit
+abbrev pub limitIn : List ℕ → ℕ → ℕ
+limitIn limits i = getD limits i 0
+
+-- then the widest limits of the first streams
+abbrev pub firstPlace : ℕ → ℕ
+firstPlace level = mostBits + level
+
+-- then the entries of the axes, two for each stream
+abbrev pub axisEntries : ℕ
+axisEntries = mostBits + 2 * mostStreams
+
+abbrev pub entryPlace : ℕ → Axis → ℕ
+entryPlace j real = axisEntries + j * (2 * span)
+entryPlace j imaginary = axisEntries + j * (2 * span) + span
+
+-- How many places there are
+abbrev pub limitsSize : ℕ
+limitsSize = axisEntries + mostStreams * (2 * span)
+
+-- Where the bits of an axis of stream j begin in a label of q bits a symbol
+abbrev pub axisStart : ℕ → ℕ → Axis → ℕ
+axisStart q j real = j * q
+axisStart q j imaginary = j * q + (q - q / 2)
+
+-- The widest limit of those of w bits from a place on that are 1 in an axis label
+unfoldable pub axisReach : (ℕ → ℕ) → ℕ → ℕ → ℕ → ℕ
+axisReach limit at w g = widestOf (λ i. bitOf w g (i - at)) limit at w
+
+-- The array has, of the first k streams, what the limits of their bits give
+pub record Reaches (q : ℕ) (limit : ℕ → ℕ) (limits : List ℕ) (k : ℕ) : Type 0 where
+  pub size : length limits ≡ limitsSize
+  pub first : (level : ℕ) → level ≤ k → getD limits (firstPlace level) 0 ≡ widestOf (λ _. true) limit 0 (level * q)
+  pub entry : (j : ℕ) → j < k → (x : Axis) → (g : ℕ) → g < 2 ^ axisBits q x
+      → getD limits (entryPlace j x + g) 0 ≡ axisReach limit (axisStart q j x) (axisBits q x) g
+
+-- The widest limit of those of stream j's bits that are 1 in a symbol, as the array has it
+unfoldable pub streamReach : ℕ → List ℕ → ℕ → ℕ → ℕ
+streamReach q limits j s =
+    max (getD limits (entryPlace j real + s / 2 ^ (q / 2)) 0) (getD limits (entryPlace j imaginary + s % 2 ^ (q / 2)) 0)
+
+-- Symbol j of a label of m symbols of q bits
+abbrev pub symbolOf : ℕ → ℕ → ℕ → ℕ → ℕ
+symbolOf m q bits j = bits / 2 ^ ((m - suc j) * q) % 2 ^ q
+
+-- The widest limit of those bits of the streams from `level` on that are 1 in `bits`
+unfoldable pub chosenReach : ℕ → ℕ → List ℕ → ℕ → ℕ → ℕ
+chosenReach m q limits level bits = widestOf (λ _. true) (λ j. streamReach q limits j (symbolOf m q bits j)) level (m - level)
+
+-- An axis's entries from place `to` on, of its last b bits: the other places are as before
+pub record AxisFilled (old new : List ℕ) (at w to b : ℕ) : Type 0 where
+  pub size : length new ≡ length old
+  pub kept : (i : ℕ) → (i < to) ⊎ (to + 2 ^ w ≤ i) → getD new i 0 ≡ getD old i 0
+  pub each : (g : ℕ) → g < 2 ^ b → getD new (to + g) 0 ≡ axisReach (limitIn old) (at + (w - b)) b g
+
+-- Stream j's entries and the widest limit of the streams up to it
+pub record StreamFilled (q : ℕ) (old new : List ℕ) (j : ℕ) : Type 0 where
+  pub size : length new ≡ length old
+  pub before : (i : ℕ) → i ≤ firstPlace j → getD new i 0 ≡ getD old i 0
+  pub earlier : (i : ℕ) → axisEntries ≤ i → i < entryPlace j real → getD new i 0 ≡ getD old i 0
+  pub first : getD new (firstPlace (suc j)) 0 ≡ max (getD old (firstPlace j) 0) (widestOf (λ _. true) (limitIn old) (j * q) q)
+  pub entry : (x : Axis) → (g : ℕ) → g < 2 ^ axisBits q x
+      → getD new (entryPlace j x + g) 0 ≡ axisReach (limitIn old) (axisStart q j x) (axisBits q x) g

@@ -1,0 +1,51 @@
+-- Where no child can pass, the bounds say so of each; else the keys are the children's partial metrics.
+use Prim.Native.Nat.{ℕ, zero, suc, _-_, _*_, _≤_, _<_, _^_}
+use mathlib.Core.Path.{refl}
+use native.Mathlib.Nat.{mul-le-mul}
+use native.Mathlib.Omega.{arith}
+use borrow.Author.Needs.{needs}
+use lib.ListN.{getD, replicate}
+use Rattle.search.proofs.Children.{shut-asked, cut-all, filled-in}
+use Rattle.search.proofs.expand.Statement.{statement}
+use Rattle.search.proofs.expand.Tie as tie
+
+zeros-small : (n i : ℕ) → getD (replicate n 0) i 0 < 2 ^ 62
+zeros-small zero i = omega arith
+zeros-small (suc n) zero = omega arith
+zeros-small (suc n) (suc i) = zeros-small n i
+
+-- The bits behind the node's own stream
+few : (s : tie.Start) → (s .args .task .streams - s .args .node .level) * s .args .task .width ≤ 18
+few s =
+    let f : s .args .task .streams - s .args .node .level ≤ 3 = omega (arith, s .pre .0 .streams, s .pre .2) in
+    omega (arith, mul-le-mul f (s .pre .0 .bits))
+
+measure-requires : tie.Need-measure-requires
+measure-requires c κs = let s = c .before .before .before in (s .pre .0, s .pre .1, s .pre .2, s .pre .3, refl, zeros-small 16)
+
+pub expand-spec : {M : Type 1} → statement M
+expand-spec =
+    tie.close
+    (tie.spec
+    measure-requires
+    (λ c κs. search needs)
+    (λ c. search needs)
+    (λ c. omega (arith, few (c .before .before .before .before .before .before .before)))
+    (λ c κs. let s = c .before .before .before .before .before .before .before in (s .pre .0 .bits, omega (arith, few s)))
+    (λ c. search needs)
+    (λ c. search needs)
+    (λ c. search needs)
+    (λ c. search needs)
+    (λ c. search needs)
+    (λ c. search needs)
+    (λ c. search needs)
+    (λ c. search needs)
+    (λ c κs. let s = c .before .before .before .before .before .before .before .before .before .before .before in
+    shut-asked _ _ _ _ _ _ _ (s .args .kept .best) _ (s .args .keys .now) _ (c .before .before .before .before .before .before .before .measure .ensures) (s .pre .2) (s .pre .3) (s .pre .0 .streams) (s .pre .6) _ refl _ (c .before .before .before .symbol-at .ensures)
+    (s .pre .0 .bits) (omega (arith, s .pre .4)))
+    (λ c. let s = c .before .before .before .before .before .before .before .before .before .before .before .before .before in
+    cut-all _ _ _ _ _ _ _ _ _ _ _ (c .before .before .before .before .before .before .before .before .before .measure .ensures) (s .pre .2) (s .pre .3) (s .pre .0 .streams) (s .pre .6) _ refl _ (c .before .before .before .before .before .symbol-at .ensures)
+    (c .before .before .before .before .before .before .before .before .bounds-of .ensures) (c .before .shuts .ensures (c .if1 .taken)))
+    (λ c κs. let s = c .before .before .before .before .before .before .before .before .before .before .before .before .before .before .before in let m = c .before .before .before .before .before .before .before .before .before .before .before .measure .ensures in (s .pre .0 .bits, omega (arith, s .pre .4), m .size, m .small, s .pre .5))
+    (λ c. search needs)
+    (λ c. filled-in _ _ _ _ _ _ _ _ _ _ _ (c .before .before .before .before .before .before .before .before .before .before .before .before .before .before .measure .ensures) (c .before .before .fill .ensures)))

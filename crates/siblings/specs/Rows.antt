@@ -1,0 +1,42 @@
+-- The keys of a node's children by the rows of the constellation: a row has one real label. Behind the keys stands each row's smallest.
+use Prim.Native.Nat.{ℕ, _+_, _-_, _*_, _/_, _^_, _≤_, _<_}
+use mathlib.Core.Path.{_≡_}
+use mathlib.Core.List.{List}
+use lib.ListN.{length, getD, set, drop}
+use Rattle.metric.specs.Parts.{childMetric, realIn, imaginaryIn}
+use Rattle.pruning.specs.Arrays.{leastFirst}
+use Rattle.pruning.specs.Program.{above}
+
+-- How many rows there are, and how many children a row has
+abbrev pub rowCount : ℕ → ℕ
+rowCount q = 2 ^ (q - q / 2)
+
+abbrev pub columnCount : ℕ → ℕ
+columnCount q = 2 ^ (q / 2)
+
+-- The places of a node's keys: 2^Q children, and the rows
+abbrev pub keyCount : ℕ → ℕ
+keyCount q = 2 ^ q + rowCount q
+
+-- The place of the smallest key of row a, the first one of equals
+abbrev pub rowLeast : ℕ → List ℕ → ℕ → ℕ
+rowLeast q keys a = a * columnCount q + leastFirst (drop (a * columnCount q) keys) (columnCount q)
+
+-- Behind the keys stands each row's smallest
+pub record RowLeast (q : ℕ) (keys : List ℕ) : Type 0 where
+  pub wide : keyCount q ≤ length keys
+  pub each : (a : ℕ) → a < rowCount q → getD keys (2 ^ q + a) 0 ≡ getD keys (rowLeast q keys a) 0
+
+-- The keys of all children are filled in
+pub record Placed (q partial : ℕ) (axes old new : List ℕ) : Type 0 where
+  pub size : length new ≡ length old
+  pub each : (s : ℕ) → s < 2 ^ q → getD new s 0 ≡ childMetric q partial (realIn axes) (imaginaryIn axes) s
+  pub rows : RowLeast q new
+
+-- The next child is taken: the first of the smallest keys, which is then the sentinel
+pub record Took (q : ℕ) (old new : List ℕ) (symbol key : ℕ) : Type 0 where
+  pub size : length new ≡ length old
+  pub first : symbol ≡ leastFirst old (2 ^ q)
+  pub least : key ≡ getD old symbol 0
+  pub each : (s : ℕ) → s < 2 ^ q → getD new s 0 ≡ getD (set old symbol above) s 0
+  pub rows : RowLeast q new
