@@ -9,3 +9,4 @@ pub mod exhaustive;
 pub mod fast;
 pub mod plain;
 pub mod record;
+pub mod trials;

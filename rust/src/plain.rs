@@ -18,7 +18,7 @@ pub fn detect(record: &[u8], reply: &mut [u8]) -> i64 {
     if reply.len() < block.buffer_bound() {
         return -14;
     }
-    let bytes = reply_bytes(&block);
+    let bytes = reply_bytes(&block, &answers(&block));
     reply[..bytes.len()].copy_from_slice(&bytes);
     bytes.len() as i64
 }
@@ -32,16 +32,17 @@ pub struct Answer {
     pub values: Vec<i64>,
 }
 
-fn reply_bytes(block: &Block) -> Vec<u8> {
+/// The reply that has these answers.
+pub fn reply_bytes(block: &Block, answers: &[Answer]) -> Vec<u8> {
     let mut bytes = OPENING.to_vec();
     for number in [block.streams, block.bits, block.vectors.len()] {
         bytes.extend(plain(number as i64));
     }
-    for answer in answers(block) {
+    for answer in answers {
         bytes.extend(plain(i64::from(answer.stopped)));
         bytes.extend(plain(answer.nodes));
         bytes.extend(plain(answer.label as i64));
-        bytes.extend(answer.values.into_iter().flat_map(folded));
+        bytes.extend(answer.values.iter().copied().flat_map(folded));
     }
     bytes
 }
@@ -98,7 +99,7 @@ fn mask(block: &Block, bit: usize) -> usize {
 // The metric.
 
 /// Row i's increment, where the streams from i on have these symbols, stream i's first.
-fn increment(block: &Block, vector: &Vector, row: usize, symbols: &[usize]) -> i64 {
+pub fn increment(block: &Block, vector: &Vector, row: usize, symbols: &[usize]) -> i64 {
     let terms = vector.matrix[row][row..].iter().zip(symbols).map(|(&entry, &symbol)| entry * point(block.bits, symbol));
     let sum = terms.fold(Complex::ZERO, |sum, term| sum + term);
     (vector.received[row] - sum).magnitude_squared() + prior_cost(block, vector, row, symbols[0])

@@ -1,14 +1,7 @@
 //! The fast detector against the plain one: returned number and every byte of the buffer.
 
-use reference::block::Block;
-use reference::chance::Chance;
-use reference::channel::{any_block, Plan, Sizes};
+use reference::trials::{self, Trial};
 use reference::{fast, plain};
-
-const SYMBOL_BITS: [usize; 4] = [1, 2, 4, 6];
-
-/// How many blocks of each kind of numbers.
-const TURNS: usize = 8_000;
 
 /// Both detectors on a record and a buffer of this length that is not all zeros; what both return.
 fn same(record: &[u8], length: usize) -> i64 {
@@ -22,153 +15,87 @@ fn same(record: &[u8], length: usize) -> i64 {
     returned
 }
 
-fn same_of(block: &Block) {
-    assert!(same(&block.record(), block.buffer_bound() + 3) > 0);
-}
-
-/// An accepted record of many labels and a large share: the plain detector would take too long.
-fn is_too_long_for_plain(record: &[u8]) -> bool {
-    reference::record::read(record).is_ok_and(|numbers| numbers[0] * numbers[1] > 8 && numbers[4] > 60)
-}
-
-/// A share that the plain detector can bear: M, a little more, or up to `most`.
-fn share(chance: &mut Chance, streams: usize, most: i64) -> i64 {
-    let streams = streams as i64;
-    match chance.draw() % 4 {
-        0 => streams,
-        1 => streams + chance.between(0, 6),
-        _ => streams + chance.between(0, most),
+/// How many records there are, and how many of them are accepted.
+fn compare(trials: impl Iterator<Item = Trial>) -> (usize, usize) {
+    let mut counts = (0, 0);
+    for trial in trials.filter(|trial| trial.suits_plain) {
+        let returned = trial.lengths().map(|length| same(&trial.record, length));
+        let is_accepted = returned[0] > 0;
+        assert_eq!(returned[1] == -14, is_accepted, "a byte short: {:02X?}", trial.record);
+        assert_eq!(returned[2], returned[0], "room to spare: {:02X?}", trial.record);
+        counts = (counts.0 + 1, counts.1 + usize::from(is_accepted));
     }
+    counts
 }
 
-fn compare_any(seed: u64, turns: usize, sizes: Sizes) {
-    let mut chance = Chance(seed);
-    for turn in 0..turns {
-        let (streams, bits) = (1 + turn % 4, SYMBOL_BITS[turn / 4 % 4]);
-        let vectors = chance.between(1, if turn % 16 == 0 { 8 } else { 3 }) as usize;
-        let label_bits = streams * bits;
-        let most = if label_bits <= 8 {
-            400
-        } else if label_bits <= 12 {
-            120
-        } else {
-            40
-        };
-        let share = share(&mut chance, streams, most);
-        same_of(&any_block(&mut chance, streams, bits, vectors, share, sizes));
-    }
+#[test]
+fn readings() {
+    assert_eq!(compare(trials::readings()), (14, 12));
 }
 
 #[test]
 fn ties() {
-    compare_any(1, TURNS, Sizes::TIES);
+    assert_eq!(compare(trials::ties()), (8_000, 8_000));
 }
 
 #[test]
 fn priors_beyond_the_clip() {
-    compare_any(2, TURNS, Sizes::PRIORS);
+    assert_eq!(compare(trials::priors_beyond_the_clip()), (8_000, 8_000));
 }
 
 #[test]
 fn full_range() {
-    compare_any(3, TURNS, Sizes::FULL);
+    assert_eq!(compare(trials::full_range()), (8_000, 8_000));
 }
 
 #[test]
 fn channels() {
-    let mut chance = Chance(4);
-    for turn in 0..4_000 {
-        let (streams, bits) = (1 + turn % 4, SYMBOL_BITS[turn / 4 % 4]);
-        let plan = Plan {
-            streams,
-            bits,
-            vectors: 1 + turn % 3,
-            clip: chance.one_of(&[0.0, 1.0, 8.0, 60.0]),
-            share: share(&mut chance, streams, 60),
-            noise: chance.one_of(&[0.1, 0.3, 0.5, 0.9, 2.0]),
-            prior: chance.one_of(&[0.0, 0.0, 2.0, 10.0]),
-        };
-        same_of(&plan.block(&mut chance));
-    }
+    assert_eq!(compare(trials::channels()), (4_000, 4_000));
 }
 
 #[test]
-fn many_vectors() {
-    let mut chance = Chance(5);
-    for turn in 0..160 {
-        let (streams, bits) = (1 + turn % 4, SYMBOL_BITS[turn / 4 % 4]);
-        let share = share(&mut chance, streams, 12);
-        same_of(&any_block(&mut chance, streams, bits, 64, share, Sizes::TIES));
-    }
+fn every_count_of_vectors() {
+    assert_eq!(compare(trials::every_count()), (1_024, 1_024));
 }
 
 #[test]
 fn whole_walks_with_the_largest_share() {
-    let mut chance = Chance(6);
-    for turn in 0..3_000 {
-        let (streams, bits) = [(1, 1), (2, 1), (3, 1), (4, 1), (1, 2), (2, 2), (3, 2), (1, 4), (1, 6), (4, 2), (2, 4)][turn % 11];
-        let sizes = [Sizes::TIES, Sizes::PRIORS, Sizes::FULL][turn % 3];
-        same_of(&any_block(&mut chance, streams, bits, 2, 17_043_520, sizes));
-    }
+    assert_eq!(compare(trials::whole_walks()), (3_000, 3_000));
 }
 
 #[test]
 fn long_walks_of_sixteen_and_sixty_four_points() {
-    let mut chance = Chance(7);
-    for turn in 0..48 {
-        let (streams, bits) = [(2, 6), (4, 4), (3, 4), (3, 6), (4, 6), (2, 4)][turn % 6];
-        let plan = Plan {
-            streams,
-            bits,
-            vectors: 1,
-            clip: chance.one_of(&[1.0, 8.0, 60.0]),
-            share: 500,
-            noise: chance.one_of(&[0.5, 0.9, 2.0]),
-            prior: chance.one_of(&[0.0, 2.0]),
-        };
-        same_of(&plan.block(&mut chance));
-    }
+    assert_eq!(compare(trials::long_walks()), (48, 48));
 }
 
 #[test]
 fn damaged_records() {
-    let mut chance = Chance(8);
-    for turn in 0..8_000 {
-        let (streams, bits) = (1 + turn % 4, SYMBOL_BITS[turn / 4 % 4]);
-        let vectors = chance.between(1, 3) as usize;
-        let block = any_block(&mut chance, streams, bits, vectors, streams as i64 + 2, Sizes::FULL);
-        let mut record = block.record();
-        let at = chance.between(0, record.len() as i64 - 1) as usize;
-        match chance.draw() % 4 {
-            0 => record.truncate(at),
-            1 => record.extend((0..chance.between(1, 3)).map(|byte| byte as u8 * 64)),
-            _ => record[at] ^= chance.between(1, 255) as u8,
-        }
-        if !is_too_long_for_plain(&record) {
-            same(&record, block.buffer_bound() + 40);
-        }
-    }
+    let (all, accepted) = compare(trials::damaged());
+    assert!(all > 7_900 && accepted > 1_000, "{all} {accepted}");
+}
+
+#[test]
+fn records_cut_at_each_length() {
+    assert_eq!(compare(trials::cut_at_each_length()).1, 32);
+}
+
+#[test]
+fn over_long_numbers() {
+    assert_eq!(compare(trials::over_long_numbers()).1, 0);
 }
 
 #[test]
 fn short_buffers() {
-    let mut chance = Chance(9);
-    for turn in 0..64 {
-        let (streams, bits) = (1 + turn % 4, SYMBOL_BITS[turn / 4 % 4]);
-        let block = any_block(&mut chance, streams, bits, 1 + turn / 16, streams as i64, Sizes::FULL);
-        let bound = block.buffer_bound();
-        for length in (0..4).chain(bound - 5..bound + 5) {
-            let returned = same(&block.record(), length);
-            assert_eq!(returned == -14, length < bound, "{length} of {bound}");
+    for trial in trials::every_count().take(64) {
+        for length in (0..4).chain(trial.room - 5..trial.room + 5) {
+            let returned = same(&trial.record, length);
+            assert_eq!(returned == -14, length < trial.room, "{length} of {}", trial.room);
         }
     }
 }
 
 #[test]
 fn the_record_readers_cases() {
-    for case in reference::cases::all() {
-        if !is_too_long_for_plain(&case.bytes) {
-            same(&case.bytes, 7 + 64 * (9 + 96));
-        }
-    }
+    let (all, accepted) = compare(trials::reader_cases());
+    assert!(all > 1_500 && accepted > 200, "{all} {accepted}");
 }

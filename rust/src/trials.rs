@@ -1,0 +1,232 @@
+//! Records that one detector is compared with another on, by kind; the same in every run. All sizes M, Q and N, both ends of C and D
+//! and of every other number, ties, priors beyond the clip, channels, long walks, and damage of every sort.
+
+use crate::block::Block;
+use crate::chance::Chance;
+use crate::channel::{any_block, Plan, Sizes};
+use crate::record::{encode, places, read, OPENING};
+
+/// How many blocks of each kind of numbers.
+const TURNS: usize = 8_000;
+
+/// M and Q whose whole trees the plain detector can walk.
+const SMALL_TREES: [(usize, usize); 11] =
+    [(1, 1), (2, 1), (3, 1), (4, 1), (1, 2), (2, 2), (3, 2), (1, 4), (1, 6), (4, 2), (2, 4)];
+
+/// A record, and the length of the shortest buffer that is accepted if the record is.
+pub struct Trial {
+    pub record: Vec<u8>,
+    pub room: usize,
+    /// Whether the plain detector is quick enough for it.
+    pub suits_plain: bool,
+}
+
+impl Trial {
+    /// Any bytes. A record that is refused has room for a reply of one small vector.
+    pub fn of(record: Vec<u8>) -> Trial {
+        match read(&record) {
+            Ok(numbers) => {
+                let suits_plain = numbers[0] * numbers[1] <= 8 || numbers[4] <= 60;
+                Trial { room: Block::of(&numbers).buffer_bound(), suits_plain, record }
+            }
+            Err(_) => Trial { room: 24, suits_plain: true, record },
+        }
+    }
+
+    fn of_block(block: &Block) -> Trial {
+        Trial { record: block.record(), room: block.buffer_bound(), suits_plain: true }
+    }
+
+    /// Buffers to try: one that just does, one that is a byte short, and one with bytes to spare.
+    pub fn lengths(&self) -> [usize; 3] {
+        [self.room, self.room - 1, self.room + 40]
+    }
+}
+
+/// M and Q by turns: all sixteen.
+fn shape(turn: usize) -> (usize, usize) {
+    (1 + turn % 4, [1, 2, 4, 6][turn / 4 % 4])
+}
+
+/// A share that the plain detector can bear: M, a little more, or up to `most` more.
+fn share(chance: &mut Chance, streams: usize, most: i64) -> i64 {
+    let streams = streams as i64;
+    match chance.draw() % 4 {
+        0 => streams,
+        1 => streams + chance.between(0, 6),
+        _ => streams + chance.between(0, most),
+    }
+}
+
+fn any(seed: u64, sizes: Sizes) -> impl Iterator<Item = Trial> {
+    let mut chance = Chance(seed);
+    (0..TURNS).map(move |turn| {
+        let (streams, bits) = shape(turn);
+        let vectors = chance.between(1, if turn % 16 == 0 { 8 } else { 3 }) as usize;
+        let most = match streams * bits {
+            0..=8 => 400,
+            9..=12 => 120,
+            _ => 40,
+        };
+        let share = share(&mut chance, streams, most);
+        Trial::of_block(&any_block(&mut chance, streams, bits, vectors, share, sizes))
+    })
+}
+
+/// Numbers so small that equal metrics are common.
+pub fn ties() -> impl Iterator<Item = Trial> {
+    any(1, Sizes::TIES)
+}
+
+/// Priors that outweigh the clip and the distances.
+pub fn priors_beyond_the_clip() -> impl Iterator<Item = Trial> {
+    any(2, Sizes::PRIORS)
+}
+
+/// Numbers up to both ends of every range.
+pub fn full_range() -> impl Iterator<Item = Trial> {
+    any(3, Sizes::FULL)
+}
+
+/// Receptions over Rayleigh channels.
+pub fn channels() -> impl Iterator<Item = Trial> {
+    let mut chance = Chance(4);
+    (0..4_000).map(move |turn| {
+        let (streams, bits) = shape(turn);
+        let plan = Plan {
+            streams,
+            bits,
+            vectors: 1 + turn % 3,
+            clip: chance.one_of(&[0.0, 1.0, 8.0, 60.0]),
+            share: share(&mut chance, streams, 60),
+            noise: chance.one_of(&[0.1, 0.3, 0.5, 0.9, 2.0]),
+            prior: chance.one_of(&[0.0, 0.0, 2.0, 10.0]),
+        };
+        Trial::of_block(&plan.block(&mut chance))
+    })
+}
+
+/// Every N from 1 to 64, for each M and Q in turn.
+pub fn every_count() -> impl Iterator<Item = Trial> {
+    let mut chance = Chance(5);
+    (0..1_024).map(move |turn| {
+        let (streams, bits) = shape(turn);
+        let share = share(&mut chance, streams, 12);
+        Trial::of_block(&any_block(&mut chance, streams, bits, 1 + turn / 16, share, Sizes::TIES))
+    })
+}
+
+/// Small trees under the largest share, which stops no walk.
+pub fn whole_walks() -> impl Iterator<Item = Trial> {
+    let mut chance = Chance(6);
+    (0..3_000).map(move |turn| {
+        let (streams, bits) = SMALL_TREES[turn % 11];
+        let sizes = [Sizes::TIES, Sizes::PRIORS, Sizes::FULL][turn % 3];
+        Trial::of_block(&any_block(&mut chance, streams, bits, 2, 17_043_520, sizes))
+    })
+}
+
+/// Walks of hundreds of nodes in the larger trees.
+pub fn long_walks() -> impl Iterator<Item = Trial> {
+    let mut chance = Chance(7);
+    (0..48).map(move |turn| {
+        let (streams, bits) = [(2, 6), (4, 4), (3, 4), (3, 6), (4, 6), (2, 4)][turn % 6];
+        let clip = chance.one_of(&[1.0, 8.0, 60.0]);
+        let noise = chance.one_of(&[0.5, 0.9, 2.0]);
+        let prior = chance.one_of(&[0.0, 2.0]);
+        Trial::of_block(&Plan { streams, bits, vectors: 1, clip, share: 500, noise, prior }.block(&mut chance))
+    })
+}
+
+/// Walks of up to tens of thousands of nodes, too long for the plain detector.
+pub fn longest_walks() -> impl Iterator<Item = Trial> {
+    let mut chance = Chance(10);
+    (0..60).map(move |turn| {
+        let (streams, bits) = [(4, 6), (4, 4), (3, 6), (2, 6), (3, 4)][turn % 5];
+        let clip = chance.one_of(&[8.0, 60.0, 1_000_000.0]);
+        let prior = chance.one_of(&[0.0, 2.0]);
+        let plan = Plan { streams, bits, vectors: 2, clip, share: 20_000, noise: 2.0, prior };
+        Trial { suits_plain: false, ..Trial::of_block(&plan.block(&mut chance)) }
+    })
+}
+
+/// Records with a byte changed, cut anywhere, or with bytes added.
+pub fn damaged() -> impl Iterator<Item = Trial> {
+    let mut chance = Chance(8);
+    (0..8_000).map(move |turn| {
+        let (streams, bits) = shape(turn);
+        let vectors = chance.between(1, 3) as usize;
+        let mut record = any_block(&mut chance, streams, bits, vectors, streams as i64 + 2, Sizes::FULL).record();
+        let at = chance.between(0, record.len() as i64 - 1) as usize;
+        match chance.draw() % 4 {
+            0 => record.truncate(at),
+            1 => record.extend((0..chance.between(1, 3)).map(|byte| byte as u8 * 64)),
+            _ => record[at] ^= chance.between(1, 255) as u8,
+        }
+        Trial::of(record)
+    })
+}
+
+/// A record of each M and Q cut at every length, whole at last.
+pub fn cut_at_each_length() -> impl Iterator<Item = Trial> {
+    let mut chance = Chance(11);
+    (0..32).flat_map(move |turn| {
+        let (streams, bits) = shape(turn);
+        let record = any_block(&mut chance, streams, bits, 1 + turn / 16, streams as i64 + 1, Sizes::FULL).record();
+        (0..=record.len()).map(move |length| Trial::of(record[..length].to_vec()))
+    })
+}
+
+/// A record of each M and Q with each of its numbers in turn in a longer form: a last group of 0, or five groups.
+pub fn over_long_numbers() -> impl Iterator<Item = Trial> {
+    let mut chance = Chance(12);
+    (0..16).flat_map(move |turn| {
+        let (streams, bits) = shape(turn);
+        let numbers = any_block(&mut chance, streams, bits, 2, streams as i64 + 1, Sizes::FULL).numbers();
+        let count = numbers.len();
+        (0..count * 2).map(move |at| Trial::of(with_over_long(&numbers, at / 2, if at % 2 == 0 { 1 } else { 5 })))
+    })
+}
+
+/// The record of these numbers, but for one: its last group has the high bit, and groups of 0 follow, to `least` groups at least.
+fn with_over_long(numbers: &[i64], place: usize, least: usize) -> Vec<u8> {
+    let all = places(numbers[0], numbers[1], numbers[2]);
+    let bytes = |at: usize| {
+        let mut groups = all[at].bytes(numbers[at]);
+        if at == place {
+            let length = least.max(groups.len() + 1);
+            groups.iter_mut().for_each(|group| *group |= 128);
+            groups.resize(length - 1, 128);
+            groups.push(0);
+        }
+        groups
+    };
+    OPENING.into_iter().chain((0..numbers.len()).flat_map(bytes)).collect()
+}
+
+/// The record reader's test records.
+pub fn reader_cases() -> impl Iterator<Item = Trial> {
+    crate::cases::all().into_iter().map(|case| Trial::of(case.bytes))
+}
+
+/// Document 01's bench readings: M = 1 with each starred C, D and prior, M = 2 with each C and D, and the listing.
+pub fn readings() -> impl Iterator<Item = Trial> {
+    const TWO_STREAMS: [i64; 10] = [1, 1, 0, 1, 1, 0, -1, 0, 0, 0];
+    let one = [(2, 0, 5, 2), (2, 0, 8, 2), (2, 0, 9, 2), (0, 0, 5, 2), (2, 10, 5, 2), (2, 10, 5, 1)];
+    let two = [(1, 10, 5), (1, 10, 4), (1, 3, 5), (1, 0, 5), (1, 10, 1), (1, 10, 2), (1, 16_777_216, 5), (2, 10, 3)];
+    let one = one.into_iter().map(|(y, prior, clip, share)| encode(&[1, 1, 1, clip, share, 1, y, 0, prior]));
+    let two = two.into_iter().map(|(count, clip, share)| {
+        let sizes = [2, 1, count, clip, share];
+        encode(&[sizes.as_slice(), &TWO_STREAMS.repeat(count as usize)].concat())
+    });
+    one.chain(two).map(Trial::of)
+}
+
+/// All of these but the longest walks.
+pub fn all() -> impl Iterator<Item = Trial> {
+    let readings = readings().chain(reader_cases());
+    let accepted = ties().chain(priors_beyond_the_clip()).chain(full_range()).chain(channels()).chain(every_count());
+    let walks = whole_walks().chain(long_walks());
+    let refused = damaged().chain(cut_at_each_length()).chain(over_long_numbers());
+    readings.chain(accepted).chain(walks).chain(refused)
+}

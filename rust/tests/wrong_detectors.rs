@@ -1,0 +1,317 @@
+//! A test of the tests: a third detector that keeps 000's list (the best label, its metric, an extrinsic metric for each bit) in place
+//! of the leaves, and that can be given one slip at a time: what document 01 says that the pruning papers invite, the frauds of its
+//! Agreement, and the likely slips beside them. With no slip it agrees on every record of `trials`; with any slip some record tells.
+
+use reference::block::{Block, Vector};
+use reference::plain::{self, Answer, Leaf};
+use reference::record::read;
+use reference::trials;
+
+/// Above every metric and limit.
+const INFINITE: i64 = 1 << 45;
+
+#[derive(Clone, Copy, Debug, PartialEq, Eq)]
+enum Slip {
+    Clean,
+    // What the pruning papers invite.
+    /// 000's eq. 31: extrinsic metrics clipped from below too, at each new best leaf.
+    ClipFromBelow,
+    /// B left out of the test, as 001 may.
+    BestLeftOut,
+    /// All later siblings dropped after one is cut.
+    SiblingsDropped,
+    PriorAfterClip,
+    PriorTwice,
+    /// A stopped vector's values are clipped as any other's, and its mark says complete.
+    MarkHidden,
+    /// 001's sign.
+    SignTurned,
+    // The Agreement's frauds.
+    /// Vector 1 is searched, the others are stopped at M nodes.
+    OthersAtM,
+    /// Stopped with one node of the allowance left.
+    StoppedEarly,
+    /// Stopped where the walk ends exactly with the allowance.
+    StoppedWhenFull,
+    /// Counts made from N and D.
+    CountIsShare,
+    PlusClipForEveryBit,
+    /// A length over an untouched buffer.
+    BufferUntouched,
+    RefusesAll,
+    // Others.
+    /// What a vector leaves is not passed on.
+    LeftoversLost,
+    /// M nodes are not kept back for each later vector.
+    NothingReserved,
+    LargerLabelOnTie,
+    LargerSymbolOnTie,
+    /// At the limit is as good as below it.
+    AtLimitPasses,
+    /// Limits of bits that are not yet chosen are not looked at.
+    UnchosenForgotten,
+    /// The prior is left out of the limit.
+    LimitWithoutPrior,
+}
+
+use Slip::*;
+
+const SLIPS: [Slip; 21] = [
+    ClipFromBelow,
+    BestLeftOut,
+    SiblingsDropped,
+    PriorAfterClip,
+    PriorTwice,
+    MarkHidden,
+    SignTurned,
+    OthersAtM,
+    StoppedEarly,
+    StoppedWhenFull,
+    CountIsShare,
+    PlusClipForEveryBit,
+    BufferUntouched,
+    RefusesAll,
+    LeftoversLost,
+    NothingReserved,
+    LargerLabelOnTie,
+    LargerSymbolOnTie,
+    AtLimitPasses,
+    UnchosenForgotten,
+    LimitWithoutPrior,
+];
+
+fn detect(slip: Slip, record: &[u8], reply: &mut [u8]) -> i64 {
+    let block = match read(record) {
+        Ok(_) if slip == RefusesAll => return -13,
+        Ok(numbers) => Block::of(&numbers),
+        Err(refusal) => return -i64::from(refusal),
+    };
+    if reply.len() < block.buffer_bound() {
+        return -14;
+    }
+    let bytes = plain::reply_bytes(&block, &answers(slip, &block));
+    if slip != BufferUntouched {
+        reply[..bytes.len()].copy_from_slice(&bytes);
+    }
+    bytes.len() as i64
+}
+
+fn answers(slip: Slip, block: &Block) -> Vec<Answer> {
+    let (count, streams) = (block.vectors.len() as i64, block.streams as i64);
+    let mut spent = 0;
+    let mut all = Vec::new();
+    for (index, vector) in block.vectors.iter().enumerate() {
+        let later = count - 1 - index as i64;
+        let allowance = match slip {
+            OthersAtM if index > 0 => streams,
+            LeftoversLost => block.share,
+            NothingReserved => count * block.share - spent,
+            StoppedEarly => (count * block.share - spent - later * streams - 1).max(streams),
+            _ => count * block.share - spent - later * streams,
+        };
+        let answer = answer(slip, block, vector, allowance);
+        spent += answer.nodes;
+        let nodes = if slip == CountIsShare { block.share } else { answer.nodes };
+        all.push(Answer { nodes, ..answer });
+    }
+    all
+}
+
+fn answer(slip: Slip, block: &Block, vector: &Vector, allowance: i64) -> Answer {
+    let best = Leaf { label: 0, metric: INFINITE };
+    let extrinsic = vec![INFINITE; block.streams * block.bits];
+    let mut walk = Walk { slip, block, vector, allowance, nodes: 0, stopped: false, best, extrinsic };
+    walk.below(&[], 0);
+    let stopped = match slip {
+        MarkHidden => false,
+        StoppedWhenFull => walk.stopped || walk.nodes == allowance,
+        _ => walk.stopped,
+    };
+    let values = (0..block.streams * block.bits).map(|bit| walk.soft_value(bit)).collect();
+    Answer { stopped, nodes: walk.nodes, label: walk.best.label, values }
+}
+
+struct Walk<'a> {
+    slip: Slip,
+    block: &'a Block,
+    vector: &'a Vector,
+    allowance: i64,
+    nodes: i64,
+    stopped: bool,
+    /// B and m; infinite before the first leaf.
+    best: Leaf,
+    /// For each bit the least metric with it opposite to m's, less the prior that favours m's bit, and clipped from above.
+    extrinsic: Vec<i64>,
+}
+
+impl Walk<'_> {
+    fn below(&mut self, symbols: &[usize], partial: i64) {
+        if symbols.len() == self.block.streams {
+            self.take_leaf(Leaf { label: self.label(symbols), metric: partial });
+            return;
+        }
+        for (metric, child) in self.children(symbols, partial) {
+            if self.stopped {
+                return;
+            }
+            if self.passes(&child, metric) {
+                self.take(&child, metric);
+            } else if self.slip == SiblingsDropped {
+                return;
+            }
+        }
+    }
+
+    fn take(&mut self, child: &[usize], metric: i64) {
+        if self.nodes == self.allowance {
+            self.stopped = true;
+        } else {
+            self.nodes += 1;
+            self.below(child, metric);
+        }
+    }
+
+    fn children(&self, symbols: &[usize], partial: i64) -> Vec<(i64, Vec<usize>)> {
+        let stream = self.block.streams - 1 - symbols.len();
+        let child = |symbol: usize| {
+            let chosen = [&[symbol], symbols].concat();
+            (partial + plain::increment(self.block, self.vector, stream, &chosen), chosen)
+        };
+        let mut all: Vec<_> = (0..1 << self.block.bits).map(child).collect();
+        if self.slip == LargerSymbolOnTie {
+            all.reverse();
+        }
+        all.sort_by_key(|(metric, _)| *metric);
+        all
+    }
+
+    fn passes(&self, child: &[usize], metric: i64) -> bool {
+        if self.best.metric == INFINITE {
+            return true;
+        }
+        let first_chosen = (self.block.streams - child.len()) * self.block.bits;
+        let path = self.label(child);
+        let counts = |bit: usize| match bit < first_chosen {
+            true => self.slip != UnchosenForgotten,
+            false => (path ^ self.best.label) & self.mask(bit) != 0,
+        };
+        let is_below = |bit: usize| match self.slip {
+            AtLimitPasses => metric <= self.limit(bit),
+            _ => metric < self.limit(bit),
+        };
+        (self.slip != BestLeftOut && metric <= self.best.metric)
+            || (0..self.extrinsic.len()).any(|bit| counts(bit) && is_below(bit))
+    }
+
+    /// The extrinsic metric, with the prior put back.
+    fn limit(&self, bit: usize) -> i64 {
+        self.extrinsic[bit] + if self.slip == LimitWithoutPrior { 0 } else { self.prior_for(self.best.label, bit) }
+    }
+
+    /// 000's list administration, with document 01's order of equal metrics.
+    fn take_leaf(&mut self, leaf: Leaf) {
+        let before = self.best;
+        let is_smaller = (leaf.label < before.label) == (self.slip != LargerLabelOnTie);
+        let is_best = leaf.metric < before.metric || (leaf.metric == before.metric && is_smaller);
+        for bit in 0..self.extrinsic.len() {
+            let differs = (leaf.label ^ before.label) & self.mask(bit) != 0;
+            if is_best && differs && before.metric < INFINITE {
+                self.extrinsic[bit] = before.metric - self.prior_for(leaf.label, bit);
+            } else if !is_best && differs {
+                let metric = leaf.metric - self.prior_for(before.label, bit);
+                self.extrinsic[bit] = self.extrinsic[bit].min(metric);
+            }
+            if is_best {
+                let clipped = self.extrinsic[bit].min(leaf.metric + self.block.clip);
+                let least = if self.slip == ClipFromBelow { leaf.metric - self.block.clip } else { -INFINITE };
+                self.extrinsic[bit] = clipped.max(least);
+            }
+        }
+        if is_best {
+            self.best = leaf;
+        }
+    }
+
+    fn soft_value(&self, bit: usize) -> i64 {
+        let (clip, prior) = (self.block.clip, self.vector.priors[bit]);
+        let is_one = self.best.label & self.mask(bit) != 0;
+        let sign = if is_one { -1 } else { 1 };
+        let value = sign * (self.extrinsic[bit] - self.best.metric);
+        match self.slip {
+            PlusClipForEveryBit => clip,
+            PriorAfterClip => (value + prior).clamp(-clip, clip) - prior,
+            PriorTwice => (value - prior).clamp(-clip, clip),
+            SignTurned => -value.clamp(-clip, clip),
+            _ => value.clamp(-clip, clip),
+        }
+    }
+
+    /// A bit's prior, its sign turned where the label's bit is 1.
+    fn prior_for(&self, label: usize, bit: usize) -> i64 {
+        let prior = self.vector.priors[bit];
+        if label & self.mask(bit) != 0 {
+            -prior
+        } else {
+            prior
+        }
+    }
+
+    fn mask(&self, bit: usize) -> usize {
+        1 << (self.extrinsic.len() - 1 - bit)
+    }
+
+    fn label(&self, symbols: &[usize]) -> usize {
+        symbols.iter().fold(0, |label, symbol| (label << self.block.bits) + symbol)
+    }
+}
+
+/// Do the plain detector and this one say the same?
+fn agree(slip: Slip, trial: &trials::Trial) -> bool {
+    let before = vec![0xA5; trial.room];
+    let (mut expected, mut found) = (before.clone(), before);
+    let returned = plain::detect(&trial.record, &mut expected);
+    detect(slip, &trial.record, &mut found) == returned && found == expected
+}
+
+#[test]
+fn with_no_slip_every_record_agrees() {
+    for trial in trials::all().filter(|trial| trial.suits_plain) {
+        assert!(agree(Clean, &trial), "{:02X?}", trial.record);
+    }
+}
+
+#[test]
+fn every_slip_is_seen() {
+    for slip in SLIPS {
+        let seen = trials::all().filter(|trial| trial.suits_plain).any(|trial| !agree(slip, &trial));
+        assert!(seen, "no record tells {slip:?}");
+    }
+}
+
+/// The records of chance alone see each of them too, and not by one lucky record.
+#[test]
+fn every_slip_is_seen_often() {
+    for slip in SLIPS {
+        let by_chance = || trials::priors_beyond_the_clip().chain(trials::ties());
+        let seen = by_chance().filter(|trial| !agree(slip, trial)).take(5).count();
+        assert_eq!(seen, 5, "{slip:?}");
+    }
+}
+
+/// Document 01's example for eq. 31: leaves 10, 12, 8, 6, the bit opposite only in 12, its prior 10 for the best one's bit, C = 3. The
+/// list of 000 then says -1; the right value is -3.
+#[test]
+fn clipping_from_below_says_what_document_01_says_it_does() {
+    let value = |slip: Slip| {
+        let vector = Vector { matrix: vec![], received: vec![], priors: vec![10, 0, 0, 0] };
+        let block = Block { streams: 1, bits: 4, clip: 3, share: 1, vectors: vec![] };
+        let best = Leaf { label: 0, metric: INFINITE };
+        let extrinsic = vec![INFINITE; 4];
+        let mut walk = Walk { slip, block: &block, vector: &vector, allowance: 1, nodes: 0, stopped: false, best, extrinsic };
+        for (label, metric) in [(0, 10), (8, 12), (1, 8), (2, 6)] {
+            walk.take_leaf(Leaf { label, metric });
+        }
+        walk.soft_value(0)
+    };
+    assert_eq!((value(ClipFromBelow), value(Clean)), (-1, -3));
+}
