@@ -1,12 +1,29 @@
-# The static library and its header, in build/. What it is made from is proved first.
+# What to prove, build and run. Everything that is linked is proved first.
+
+# The listing of a sample: proves the listing program and all that it stands on, builds it and runs it.
+run:
+	rt check list
+	target/bin/list < samples/example.rec
+
+# The listing of a record of one's own: make list RECORD=path
+list:
+	@test -n "$(RECORD)" || { echo "Which record? For example: make list RECORD=samples/priors.rec"; exit 2; }
+	@test -f "$(RECORD)" || { echo "There is no file $(RECORD)."; exit 2; }
+	@mkdir -p build
+	@rt check list > build/list.log 2>&1 || { cat build/list.log; exit 1; }
+	@target/bin/list < "$(RECORD)"
+
+# The static library and its header, in build/.
 lib:
-	rt staticlib detector
-	mkdir -p build
-	cp target/staticlib/libdetector.a build/libgeckoneedle.a
-	cp include/geckoneedle.h build/geckoneedle.h
+	.ci/lib
+
+# The C programs in build/, linked with the library, and one of them run.
+host: lib
+	hosts/build.sh
+	build/detect samples/example.rec
 
 # The whole test.
 test:
 	.ci/run
 
-.PHONY: lib test
+.PHONY: run list lib host test

@@ -7,6 +7,8 @@ pub mod chance;
 pub mod channel;
 pub mod exhaustive;
 pub mod fast;
+pub mod listing;
 pub mod plain;
 pub mod record;
+pub mod samples;
 pub mod trials;

@@ -1,0 +1,75 @@
+//! The sample records, and what is printed of them.
+//!
+//! `samples ROOT` writes, below the repository's folder ROOT, samples/NAME.rec, samples/NAME.txt (document 01's listing of it) and what
+//! hosts/detect prints of the samples and of a record for each refusal: hosts/expected/samples and hosts/expected/refusals.
+//! `samples --check ROOT` compares the files there with what it would write. `samples --refusals FOLDER` writes the records for the
+//! refusals, 1.rec to 13.rec.
+
+use reference::listing::{host_lines, listing, reason};
+use reference::samples::{all, example, refusals};
+use std::path::Path;
+use std::process::ExitCode;
+use std::{env, fs};
+
+/// A file's place below the root, and its bytes.
+type File = (String, Vec<u8>);
+
+fn main() -> ExitCode {
+    let arguments: Vec<String> = env::args().skip(1).collect();
+    let words: Vec<&str> = arguments.iter().map(String::as_str).collect();
+    let outcome = match words[..] {
+        ["--check", root] => check(Path::new(root)),
+        ["--refusals", folder] => write(Path::new(folder), refused_files()),
+        [root] if !root.starts_with('-') => write(Path::new(root), stored_files()),
+        _ => Err("usage: samples ROOT, samples --check ROOT, samples --refusals FOLDER".to_string()),
+    };
+    match outcome {
+        Ok(()) => ExitCode::SUCCESS,
+        Err(said) => {
+            eprintln!("samples: {said}");
+            ExitCode::FAILURE
+        }
+    }
+}
+
+fn stored_files() -> Vec<File> {
+    let mut files = vec![];
+    let mut printed = String::new();
+    for (name, record) in all() {
+        files.push((format!("samples/{name}.txt"), listing(&record).into_bytes()));
+        printed += &host_lines(&format!("samples/{name}.rec"), &record);
+        files.push((format!("samples/{name}.rec"), record));
+    }
+    files.push(("hosts/expected/samples".to_string(), printed.into_bytes()));
+    files.push(("hosts/expected/refusals".to_string(), refusal_lines().into_bytes()));
+    files
+}
+
+/// What the host prints of a record for each refusal; the last is the example with a buffer that is a byte short.
+fn refusal_lines() -> String {
+    let lines = refused_files().iter().map(|(name, record)| host_lines(name, record)).collect::<String>();
+    let room = 7 + 2 * (9 + 4 * 2);
+    assert_eq!((example().len(), room), (29, 41), "hosts/test.sh gives the example 40 bytes");
+    lines + &format!("samples/example.rec: refused by 14: {}\n", reason(14))
+}
+
+fn refused_files() -> Vec<File> {
+    refusals().into_iter().enumerate().map(|(index, record)| (format!("{}.rec", index + 1), record)).collect()
+}
+
+fn write(root: &Path, files: Vec<File>) -> Result<(), String> {
+    for (name, bytes) in files {
+        fs::write(root.join(&name), bytes).map_err(|error| format!("{name}: {error}"))?;
+    }
+    Ok(())
+}
+
+fn check(root: &Path) -> Result<(), String> {
+    for (name, bytes) in stored_files() {
+        let stored = fs::read(root.join(&name)).map_err(|error| format!("{name}: {error}"))?;
+        if stored != bytes {
+            return Err(format!("{name} is not what this program makes"));
+        }
+    }
+    Ok(())
+}

@@ -1,0 +1,112 @@
+//! What is printed of a record: document 01's listing, and the C host's lines. Answers are the plain detector's.
+
+use crate::block::{Block, Vector};
+use crate::plain::{answers, Answer};
+use crate::record::{read, Refusal};
+
+/// Document 01's listing of a record.
+pub fn listing(record: &[u8]) -> String {
+    let block = match read(record) {
+        Ok(numbers) => Block::of(&numbers),
+        Err(refusal) => return format!("refused {refusal}\n"),
+    };
+    let Block { streams, bits, clip, share, vectors } = &block;
+    let answers = answers(&block);
+    let mut lines = vec![format!("streams {streams} bits {bits} vectors {} clip {clip} share {share}", vectors.len())];
+    for (index, (vector, answer)) in vectors.iter().zip(&answers).enumerate() {
+        let (mark, against) = (mark(answer), against_priors(vector, answer.label));
+        lines.push(format!("{} {mark} {} {} {against} {}", index + 1, answer.nodes, answer.label, values(answer)));
+    }
+    lines.push(format!("total {}", answers.iter().map(|answer| answer.nodes).sum::<i64>()));
+    lines.join("\n") + "\n"
+}
+
+/// What hosts/detect.c prints of a record file.
+pub fn host_lines(path: &str, record: &[u8]) -> String {
+    let block = match read(record) {
+        Ok(numbers) => Block::of(&numbers),
+        Err(refusal) => return format!("{path}: refused by {refusal}: {}\n", reason(refusal)),
+    };
+    let (vectors, streams, bits) = (block.vectors.len(), block.streams, block.bits);
+    let mut lines = vec![format!(
+        "{path}: {vectors} vector{} of {streams} stream{}, {bits} bit{} each",
+        plural(vectors),
+        plural(streams),
+        plural(bits)
+    )];
+    for (index, answer) in answers(&block).iter().enumerate() {
+        let (mark, nodes) = (mark(answer), answer.nodes);
+        let plural = plural(nodes as usize);
+        let found = format!("{mark} after {nodes} node{plural}, label {}", answer.label);
+        lines.push(format!("  vector {}: {found}, soft values {}", index + 1, values(answer)));
+    }
+    lines.join("\n") + "\n"
+}
+
+fn mark(answer: &Answer) -> &'static str {
+    if answer.stopped {
+        "stopped"
+    } else {
+        "complete"
+    }
+}
+
+/// How many label bits go against the sign of their prior; a prior of 0 has none.
+fn against_priors(vector: &Vector, label: usize) -> usize {
+    let count = vector.priors.len();
+    let is_one = |bit: usize| label >> (count - 1 - bit) & 1 == 1;
+    (0..count).filter(|&bit| if is_one(bit) { vector.priors[bit] > 0 } else { vector.priors[bit] < 0 }).count()
+}
+
+fn values(answer: &Answer) -> String {
+    answer.values.iter().map(i64::to_string).collect::<Vec<_>>().join(" ")
+}
+
+fn plural(count: usize) -> &'static str {
+    if count == 1 {
+        ""
+    } else {
+        "s"
+    }
+}
+
+/// Document 01's table in words.
+pub fn reason(refusal: Refusal) -> &'static str {
+    match refusal {
+        1 => "the first four bytes are missing or are not 43 42 52 31",
+        2 => "the record ends before the last group of a number",
+        3 => "a number has four groups and no last one, or ends in a group of 0 that it does not need",
+        4 => "the number of streams M is not 1 to 4",
+        5 => "the bits of a symbol Q are not 1, 2, 4 or 6",
+        6 => "the number of vectors N is not 1 to 64",
+        7 => "the clip C is above 16777215",
+        8 => "the share D is not M to 17043520",
+        9 => "an entry on R's diagonal is not 1 to 2047",
+        10 => "a part of an entry right of R's diagonal is not -2047 to 2047",
+        11 => "a part of y is not -131071 to 131071",
+        12 => "a prior is not -1048575 to 1048575",
+        13 => "bytes follow the last prior",
+        14 => "the reply buffer is shorter than 7 + N x (9 + 4 x M x Q) bytes",
+        _ => panic!("document 01 has no refusal {refusal}"),
+    }
+}
+
+#[cfg(test)]
+mod tests {
+    use super::*;
+
+    #[test]
+    fn the_listing_of_document_01() {
+        let record = crate::samples::example();
+        let printed = "streams 2 bits 1 vectors 2 clip 10 share 3\n1 stopped 4 2 0 -8 10\n2 stopped 2 2 0 -10 10\ntotal 6\n";
+        assert_eq!(listing(&record), printed);
+        assert_eq!(listing(&record[..8]), "refused 2\n");
+    }
+
+    /// Priors -1, 0, 2, 3 for the label 0110: the first and the third bit go against them.
+    #[test]
+    fn bits_against_their_priors() {
+        let vector = Vector { matrix: vec![], received: vec![], priors: vec![-1, 0, 2, 3] };
+        assert_eq!(against_priors(&vector, 0b0110), 2);
+    }
+}
