@@ -26,4 +26,20 @@ host: lib
 test:
 	.ci/run
 
-.PHONY: run list lib host test
+# Times of the proved detector beside the fast Rust one, on records of the benchmark's own or on those of a folder: make bench RECORDS=folder
+bench: lib
+	@$(BENCH) -- times $(RECORDS)
+
+# Instructions for each walked node of both, on the same records; needs valgrind.
+instructions: lib
+	@rm -rf build/records && mkdir -p build/records
+	@$(BENCH) -- records build/records
+	@rust/linked/instructions.sh $(or $(RECORDS),build/records)
+
+# Renews every figure of docs/PERFORMANCE.md, and docs/nodes-over-clip.svg; needs valgrind.
+figures: lib
+	rust/linked/figures.sh
+
+BENCH = cargo run --quiet --offline --profile measure --manifest-path rust/Cargo.toml -p linked --bin bench
+
+.PHONY: run list lib host test bench instructions figures

@@ -63,6 +63,12 @@ complains "build/large.rec: the file is too large, a record has at most 8207 byt
 expect 2 "no file" build/detect
 expect 2 "no buffer length" build/detect -b 41x samples/example.rec
 
+# The program that README.md shows.
+awk '/^```c$/ { inside = 1; next } /^```$/ { inside = 0 } inside' README.md >build/readme.c
+gcc -std=c99 -Wall -Wextra -Werror -Ibuild build/readme.c build/libgeckoneedle.a -o build/readme || fail "README.md's program does not build"
+[ "$(build/readme <samples/example.rec)" = "a reply of 17 bytes" ] || fail "README.md's program does not run"
+[ "$(build/readme <build/large.rec)" = "refused by 1" ] || fail "README.md's program takes too long a record"
+
 # Two threads at once, against one.
 expect 0 "two threads" build/threads 50 $samples
 cat build/printed

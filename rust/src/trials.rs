@@ -138,14 +138,15 @@ pub fn long_walks() -> impl Iterator<Item = Trial> {
     })
 }
 
-/// Walks of up to tens of thousands of nodes, too long for the plain detector.
+/// Walks of thousands of nodes, too long for the plain detector; under every other share some are stopped.
 pub fn longest_walks() -> impl Iterator<Item = Trial> {
     let mut chance = Chance(10);
     (0..60).map(move |turn| {
         let (streams, bits) = [(4, 6), (4, 4), (3, 6), (2, 6), (3, 4)][turn % 5];
         let clip = chance.one_of(&[8.0, 60.0, 1_000_000.0]);
         let prior = chance.one_of(&[0.0, 2.0]);
-        let plan = Plan { streams, bits, vectors: 2, clip, share: 20_000, noise: 2.0, prior };
+        let share = [20_000, 1_000][turn % 2];
+        let plan = Plan { streams, bits, vectors: 2, clip, share, noise: 2.0, prior };
         Trial { suits_plain: false, ..Trial::of_block(&plan.block(&mut chance)) }
     })
 }
