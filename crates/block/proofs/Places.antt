@@ -117,12 +117,15 @@ priors-from (suc m) q r y p =
     let e : suc m * q ≡ q + m * q = omega (arith, suc-mul m q) in
     rw (e, take-add) (ap (λ (l : List ℤ). take q p ++ l) (priors-from m q (drop (1 + 2 * m) r) (drop 2 y) (drop q p)))
 
--- All priors "in label order": that of a label's i-th bit, from 0
+-- All priors "in label order" stand behind R and y
+pub all-priors : (m q : ℕ) (numbers : List ℤ) → allPriors (rowsOf m q numbers) ≡ take (m * q) (drop (m * m + 2 * m) numbers)
+unfolding rowsOf
+all-priors m q numbers = priors-from m q numbers (drop (m * m) numbers) (drop (m * m + 2 * m) numbers)
+
+-- That of a label's i-th bit, from 0
 pub all-priors-at : (m q : ℕ) (numbers : List ℤ) (i : ℕ) → i < m * q
     → getD (allPriors (rowsOf m q numbers)) i (pos 0) ≡ getD numbers (m * m + 2 * m + i) (pos 0)
-unfolding rowsOf
-all-priors-at m q numbers i h =
-    rw (priors-from m q numbers (drop (m * m) numbers) (drop (m * m + 2 * m) numbers), getD-take, getD-drop)
+all-priors-at m q numbers i h = rw (all-priors m q numbers, getD-take, getD-drop)
 
 -- A block has N vectors
 pub vectors-count : (numbers : List ℤ) → length (blockOf numbers .vectors) ≡ countAt 2 numbers

@@ -1,0 +1,44 @@
+-- Document 01's listing, computed from its record, and a count of bits that go against their priors.
+use Prim.Native.Nat.{ℕ}
+use mathlib.Core.Path.{_≡_, refl}
+use mathlib.Core.List.{List, [], _∷_}
+use lib.IntN.{pos, negsuc}
+use Rattle.model.specs.Constellation.{bitsOf, number, symbols, amplitude, point}
+use Rattle.model.specs.Metric.{dot, residual, priorCost, increment, metric, allPriors}
+use Rattle.model.specs.Order.{earlier}
+use Rattle.model.specs.Soft.{leastOf, those, pick, upFrom}
+use Rattle.model.specs.Walk.{passes, insert, sort, children, walkBelow}
+use Rattle.model.specs.Block.{answer, answersFrom, totalCount}
+use Rattle.wire.specs.Reading.{numberAt, groups, above, lastGroup}
+use Rattle.wire.specs.Folding.{unfolded}
+use Rattle.block.specs.Reading.{byNumber, numbersAt, kindsOf, runsOf, matrixRuns, vectorsAt, sizedAt, recordAt, startsWith}
+use Rattle.block.specs.Reading.{readRecord, readWhole}
+use Rattle.block.specs.Contents.{complexes, rowsFrom, rowsOf, blockOf}
+use Rattle.listing.specs.Against.{againstIn, against}
+use Rattle.listing.specs.Text.{decimals, decimalOf, field, valueText, softText, headLine, vectorLine, linesFrom, totalLine}
+use Rattle.listing.specs.Text.{blockText, listingOf}
+
+-- Bits 1, 0, 1, 1 of priors 5, -3, 0, -2: the first two go against
+pub against-reading : against (pos 5 ∷ negsuc 2 ∷ pos 0 ∷ negsuc 1 ∷ []) 11 ≡ 2
+unfolding againstIn bitsOf
+against-reading = refl
+
+-- "43 42 52 31 02 01 02 0A 03, then twice 01 02 00 01 02 00 01 00 00 00"
+abbrev bytes : List ℕ
+bytes =
+    0x43 ∷ 0x42 ∷ 0x52 ∷ 0x31 ∷ 0x02 ∷ 0x01 ∷ 0x02 ∷ 0x0A ∷ 0x03 ∷ 0x01 ∷ 0x02 ∷ 0x00 ∷ 0x01 ∷ 0x02 ∷ 0x00 ∷ 0x01 ∷ 0x00 ∷ 0x00 ∷ 0x00
+    ∷ 0x01 ∷ 0x02 ∷ 0x00 ∷ 0x01 ∷ 0x02 ∷ 0x00 ∷ 0x01 ∷ 0x00 ∷ 0x00 ∷ 0x00 ∷ []
+
+-- All that is printed of it
+pub listing-reading : listingOf bytes
+    ≡ 115 ∷ 116 ∷ 114 ∷ 101 ∷ 97 ∷ 109 ∷ 115 ∷ 32 ∷ 50 ∷ 32 ∷ 98 ∷ 105 ∷ 116 ∷ 115 ∷ 32 ∷ 49 ∷ 32 ∷ 118 ∷ 101 ∷ 99 ∷ 116 ∷ 111 ∷ 114
+    ∷ 115 ∷ 32 ∷ 50 ∷ 32 ∷ 99 ∷ 108 ∷ 105 ∷ 112 ∷ 32 ∷ 49 ∷ 48 ∷ 32 ∷ 115 ∷ 104 ∷ 97 ∷ 114 ∷ 101 ∷ 32 ∷ 51 ∷ 10
+    ∷ 49 ∷ 32 ∷ 115 ∷ 116 ∷ 111 ∷ 112 ∷ 112 ∷ 101 ∷ 100 ∷ 32 ∷ 52 ∷ 32 ∷ 50 ∷ 32 ∷ 48 ∷ 32 ∷ 45 ∷ 56 ∷ 32 ∷ 49 ∷ 48 ∷ 10
+    ∷ 50 ∷ 32 ∷ 115 ∷ 116 ∷ 111 ∷ 112 ∷ 112 ∷ 101 ∷ 100 ∷ 32 ∷ 50 ∷ 32 ∷ 50 ∷ 32 ∷ 48 ∷ 32 ∷ 45 ∷ 49 ∷ 48 ∷ 32 ∷ 49 ∷ 48 ∷ 10
+    ∷ 116 ∷ 111 ∷ 116 ∷ 97 ∷ 108 ∷ 32 ∷ 54 ∷ 10
+    ∷ []
+unfolding listingOf readWhole readRecord recordAt sizedAt vectorsAt numbersAt kindsOf runsOf matrixRuns byNumber numberAt groups above
+    lastGroup unfolded startsWith blockOf rowsOf rowsFrom complexes upFrom number symbols amplitude point dot residual priorCost increment
+    metric allPriors earlier leastOf those pick passes insert sort children walkBelow answer answersFrom blockText headLine linesFrom
+    totalLine totalCount vectorLine field decimalOf decimals againstIn bitsOf softText valueText
+listing-reading = refl

@@ -1,0 +1,4 @@
+pub mod Against
+pub mod Text
+pub mod Replied
+pub mod Steps

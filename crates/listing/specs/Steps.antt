@@ -1,0 +1,57 @@
+-- What the steps of a listing ask, and what each leaves.
+use Prim.Native.Nat.{ℕ, _+_, _*_, _^_, _≤_, _<_}
+use mathlib.Core.Path.{_≡_}
+use mathlib.Core.List.{List}
+use lib.IntN.{ℤ}
+use lib.ListN.{length}
+use Rattle.model.specs.Metric.{allPriors}
+use Rattle.model.specs.Block.{answers, totalCount}
+use Rattle.block.specs.Reading.{countAt, vectorSize}
+use Rattle.block.specs.Contents.{vectorRows, blockOf}
+use Rattle.search.specs.Holds.{Holds}
+use Rattle.detector.specs.Reply.{answerNumbers, answersNumbers}
+use Rattle.detector.specs.Steps.{Wrote, answerAt}
+use Rattle.listing.specs.Text.{vectorLine, linesFrom}
+use Rattle.listing.specs.Replied.{placeAfter, Stand}
+use Rattle.listing.specs.declared.Sizes.{Sizes}
+use Rattle.listing.specs.declared.Progress.{Progress}
+
+-- The sizes are those of the lent list
+pub record Sized (h : Sizes) (list : List ℤ) : Type 0 where
+  pub vector-is : h .vector ≡ vectorSize (countAt 0 list) (countAt 1 list)
+  pub bits-is : h .bits ≡ countAt 0 list * countAt 1 list
+
+-- What the line of vector k, from 0, asks: the lent list, the vector's answer in the reply, room, and a total that is a machine number
+pub record NumberedAsked (h : Sizes) (list : List ℤ) (reply : List ℕ) (k : ℕ) (step : Progress) (room : ℕ) : Type 0 where
+  pub held : Holds list
+  pub sized : Sized h list
+  pub inside : k < countAt 2 list
+  pub stands : Stand reply (step .place) (answerNumbers (answerAt list (step .total) k))
+  pub buffer : step .at + 341 ≤ room
+  pub sum : step .total + answerAt list (step .total) k .count < 2 ^ 32
+
+-- What it leaves: the line of its answer and its priors, "its number from 1", and its nodes in the total
+pub record Numbered (text : List ℕ) (list : List ℤ) (reply : List ℕ) (k : ℕ) (step : Progress) (after : List ℕ) (next : Progress)
+    : Type 0 where
+  pub line : Wrote text (step .at) (vectorLine (k + 1) (answerAt list (step .total) k) (allPriors (vectorRows list k))) after (next .at)
+  pub room : next .at ≤ step .at + 341
+  pub place-is : next .place ≡ placeAfter (length (answerNumbers (answerAt list (step .total) k))) reply (step .place)
+  pub total-is : next .total ≡ step .total + answerAt list (step .total) k .count
+
+-- What the lines of all vectors ask: their answers stand in the reply behind its opening and M, Q, N
+pub record VectorsAsked (list : List ℤ) (reply : List ℕ) (at room : ℕ) : Type 0 where
+  pub held : Holds list
+  pub stands : Stand reply 7 (answersNumbers (answers (blockOf list)))
+  pub buffer : at + 64 * 341 ≤ room
+
+-- What they leave: these lines, and the nodes of all vectors
+pub record VectorsListed (text : List ℕ) (list : List ℤ) (at : ℕ) (after : List ℕ) (next : Progress) : Type 0 where
+  pub lines : Wrote text at (linesFrom 1 (blockOf list .vectors) (answers (blockOf list))) after (next .at)
+  pub room : next .at ≤ at + 64 * 341
+  pub total-is : next .total ≡ totalCount (answers (blockOf list))
+
+-- What the listing of a block asks: its answers in the reply, and room for any listing
+pub record BlockAsked (list : List ℤ) (reply : List ℕ) (room : ℕ) : Type 0 where
+  pub held : Holds list
+  pub stands : Stand reply 7 (answersNumbers (answers (blockOf list)))
+  pub buffer : 21928 ≤ room

@@ -1,0 +1,133 @@
+-- Document 01, "Bench readings": what the listing program prints, byte by byte (ASCII), from the record's bytes alone.
+use Prim.Native.Nat.{ℕ, zero, suc, _+_, _/_, _%_, _≤_}
+use mathlib.Core.Path.{_≡_}
+use mathlib.Core.Bool.{Bool, true, false, cond}
+use mathlib.Core.List.{List, [], _∷_, _++_, map}
+use lib.Dec.{ltb, eqb}
+use lib.IntN.{ℤ, pos, negsuc}
+use lib.ListN.{length, getD, drop}
+use Rattle.model.specs.Metric.{Row, allPriors}
+use Rattle.model.specs.Block.{Block, Answer, answers, totalCount}
+use Rattle.wire.specs.Folding.{unfolded}
+use Rattle.block.specs.Table.{refusalNumber}
+use Rattle.block.specs.Reading.{readWhole}
+use Rattle.block.specs.Contents.{blockOf}
+use Rattle.block.specs.declared.Read.{Read}
+use Rattle.block.specs.declared.Read.the-variants.{Ended, Refused}
+use Rattle.listing.specs.Against.{against}
+
+-- A number in decimal digits, the fewest that hold it; the first argument is how many may still stand before the last
+unfoldable pub decimals : ℕ → ℕ → List ℕ
+decimals zero n = (48 + n % 10) ∷ []
+decimals (suc most) n = let more = decimals most (n / 10) ++ (48 + n % 10) ∷ [] in cond (ltb n 10) ((48 + n) ∷ []) more
+
+unfoldable pub decimalOf : ℕ → List ℕ
+decimalOf n = decimals n n
+
+abbrev pub lineEnd : List ℕ
+lineEnd = 10 ∷ []
+
+abbrev pub blank : List ℕ
+blank = 32 ∷ []
+
+abbrev pub minus : List ℕ
+minus = 32 ∷ 45 ∷ []
+
+-- "streams ", " bits ", " vectors ", " clip ", " share "
+abbrev pub streamsWord : List ℕ
+streamsWord = 115 ∷ 116 ∷ 114 ∷ 101 ∷ 97 ∷ 109 ∷ 115 ∷ 32 ∷ []
+
+abbrev pub bitsWord : List ℕ
+bitsWord = 32 ∷ 98 ∷ 105 ∷ 116 ∷ 115 ∷ 32 ∷ []
+
+abbrev pub vectorsWord : List ℕ
+vectorsWord = 32 ∷ 118 ∷ 101 ∷ 99 ∷ 116 ∷ 111 ∷ 114 ∷ 115 ∷ 32 ∷ []
+
+abbrev pub clipWord : List ℕ
+clipWord = 32 ∷ 99 ∷ 108 ∷ 105 ∷ 112 ∷ 32 ∷ []
+
+abbrev pub shareWord : List ℕ
+shareWord = 32 ∷ 115 ∷ 104 ∷ 97 ∷ 114 ∷ 101 ∷ 32 ∷ []
+
+-- " stopped ", " complete "
+abbrev pub stateWord : Bool → List ℕ
+stateWord true = 32 ∷ 115 ∷ 116 ∷ 111 ∷ 112 ∷ 112 ∷ 101 ∷ 100 ∷ 32 ∷ []
+stateWord false = 32 ∷ 99 ∷ 111 ∷ 109 ∷ 112 ∷ 108 ∷ 101 ∷ 116 ∷ 101 ∷ 32 ∷ []
+
+-- "total ", "refused "
+abbrev pub totalWord : List ℕ
+totalWord = 116 ∷ 111 ∷ 116 ∷ 97 ∷ 108 ∷ 32 ∷ []
+
+abbrev pub refusedWord : List ℕ
+refusedWord = 114 ∷ 101 ∷ 102 ∷ 117 ∷ 115 ∷ 101 ∷ 100 ∷ 32 ∷ []
+
+-- A word and a number
+unfoldable pub field : List ℕ → ℕ → List ℕ
+field word n = word ++ decimalOf n
+
+-- "The first line gives M, Q, N, C and D"
+unfoldable pub headLine : ℕ → ℕ → ℕ → ℕ → ℕ → List ℕ
+headLine m q n c d = field streamsWord m ++ field bitsWord q ++ field vectorsWord n ++ field clipWord c ++ field shareWord d ++ lineEnd
+
+-- A signed number behind a blank, "-" before a negative one
+unfoldable pub valueText : ℤ → List ℕ
+valueText (pos n) = field blank n
+valueText (negsuc n) = field minus (suc n)
+
+unfoldable pub softText : List ℤ → List ℕ
+softText [] = []
+softText (z ∷ zs) = valueText z ++ softText zs
+
+-- "A vector's line: its number from 1, complete or stopped, nodes, label, the number of label bits that go against the sign of their
+-- prior .., soft values"
+unfoldable pub vectorLine : ℕ → Answer → List ℤ → List ℕ
+vectorLine number a priors =
+    decimalOf number
+    ++ field (stateWord (a .stopped)) (a .count)
+    ++ field blank (a .result .label)
+    ++ field blank (against priors (a .result .label))
+    ++ softText (a .result .soft)
+    ++ lineEnd
+
+-- The lines of vectors and their answers, the first of which has a number
+unfoldable pub linesFrom : ℕ → List (List Row) → List Answer → List ℕ
+linesFrom number [] found = []
+linesFrom number (rows ∷ later) [] = []
+linesFrom number (rows ∷ later) (a ∷ found) = vectorLine number a (allPriors rows) ++ linesFrom (suc number) later found
+
+-- "total" and "the nodes of all vectors"
+unfoldable pub totalLine : ℕ → List ℕ
+totalLine n = field totalWord n ++ lineEnd
+
+-- The listing of a block
+unfoldable pub blockText : Block → List ℕ
+blockText b =
+    headLine (b .streams) (b .width) (length (b .vectors)) (b .clip) (b .share)
+    ++ linesFrom 1 (b .vectors) (answers b)
+    ++ totalLine (totalCount (answers b))
+
+-- 'A refused record prints "refused " and the number, alone'
+unfoldable pub refusedLine : ℕ → List ℕ
+refusedLine n = field refusedWord n ++ lineEnd
+
+abbrev pub byRead : List ℤ → Read → List ℕ
+byRead numbers (Ended at) = blockText (blockOf numbers)
+byRead numbers (Refused r) = refusedLine (refusalNumber r)
+
+-- What is printed of any bytes
+unfoldable pub listingOf : List ℕ → List ℕ
+listingOf bytes = byRead (readWhole bytes .numbers) (readWhole bytes .read)
+
+-- The answer that numbers of a reply say: mark, nodes, label, folded soft values
+unfoldable pub answerFrom : List ℕ → Answer
+answerFrom numbers = record {
+  stopped = eqb (getD numbers 0 0) 1;
+  count = getD numbers 1 0;
+  result = record { label = getD numbers 2 0; soft = map unfolded (drop 3 numbers) };
+}
+
+-- What a vector's line asks: a mark, nodes, a label and a value for each prior, at most 24 of these; and room for any such line
+pub record LineAsked (at numbers bits room : ℕ) : Type 0 where
+  pub all : numbers ≡ 3 + bits
+  pub few : bits ≤ 24
+  pub buffer : at + 341 ≤ room
