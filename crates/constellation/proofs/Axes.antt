@@ -1,48 +1,53 @@
--- A table that computes to an axis has the Gray rule at each entry, whatever its width; and a point by the two halves of its label.
-use Prim.Native.Nat.{ℕ, zero, suc, _+_, _-_, _/_, _%_, _^_, _<_}
-use mathlib.Core.Path.{_≡_, refl, sym, _∙_, ap, ap₂, subst}
+-- The table of amplitudes computes to the axes of the Gray rule, which says each entry; and a point by the two halves of its label.
+use Prim.Native.Nat.{ℕ, zero, suc, _+_, _-_, _*_, _/_, _%_, _^_, _≤_, _<_}
+use mathlib.Core.Path.{_≡_, refl, sym, _∙_, ap, ap₂}
 use mathlib.Core.List.{List, [], _∷_, map}
 use native.Mathlib.Omega.{arith}
-use lib.Dec.{T, ltb, ltb→lt}
-use lib.IntN.{ℤ, pos, negsuc, natAbs}
+use lib.IntN.{ℤ, pos, negsuc, _-ℤ_}
 use lib.ListN.{getD, take, drop}
-use lib.Pow.{pow-lt}
-use mir.Syntax.{w64}
-use mir.Val.{toZ, ofZ}
-use mir.Facts.{toZ-ofZ}
-use Rattle.integers.proofs.Fits.{sfits-abs}
-use Rattle.model.specs.Constellation.{amplitude, bitsOf, point, realBits}
+use lib.Seq.{getD-take, getD-drop}
+use lib.Pow.{pow-mono}
+use Rattle.model.specs.Constellation.{amplitude, bitsOf, point}
 use Rattle.model.specs.Soft.{upFrom}
-use Rattle.model.proofs.Gray.{amplitude-below}
 use Rattle.model.proofs.Lists.{getD-places}
 use Rattle.model.proofs.Numbers.{length-bitsOf, take-bits, drop-bits, low-bits}
 use Rattle.constellation.specs.Axis.{axis, complexOf}
 
--- An entry of an axis table of any width below 63 bits, as it is read
-pub at-axis : (w : ℕ) (table : List ℤ) → table ≡ axis w → T (ltb w 63) → (g : ℕ) → g < 2 ^ w → toZ w64 (ofZ w64 (getD table g (pos 0))) ≡ amplitude (bitsOf w g)
+-- The table of the axes of up to 3 bits, computed: those of w bits stand from place 2 ^ w on
+abbrev table : List ℤ
+table =
+    pos 0 ∷ pos 0 ∷ negsuc 0 ∷ pos 1 ∷ negsuc 2 ∷ negsuc 0 ∷ pos 3 ∷ pos 1 ∷ negsuc 6 ∷ negsuc 4 ∷ negsuc 0 ∷ negsuc 2 ∷ pos 7 ∷ pos 5 ∷ pos 1
+    ∷ pos 3 ∷ []
+
+axis-is : (w : ℕ) → w ≤ 3 → take (2 ^ w) (drop (2 ^ w) table) ≡ axis w
+unfolding axis upFrom amplitude bitsOf
+axis-is zero h = refl
+axis-is (suc zero) h = refl
+axis-is (suc (suc zero)) h = refl
+axis-is (suc (suc (suc zero))) h = refl
+axis-is (suc (suc (suc (suc w)))) h = absurd (omega arith)
+
+table-at : (w g : ℕ) → w ≤ 3 → g < 2 ^ w → getD table (2 ^ w + g) (pos 0) ≡ amplitude (bitsOf w g)
 unfolding axis
-at-axis w table e small g h = rw entry (toZ-ofZ (sfits-abs (amplitude (bitsOf w g)) below))
-  where
-    entry : getD table g (pos 0) ≡ amplitude (bitsOf w g)
-    entry = ap (λ (l : List ℤ). getD l g (pos 0)) e ∙ getD-places (λ k. amplitude (bitsOf w k)) (pos 0) (2 ^ w) g h
+table-at w g h k =
+    sym (getD-take (2 ^ w) (drop (2 ^ w) table) g (pos 0) k ∙ getD-drop (2 ^ w) table g (pos 0))
+    ∙ ap (λ (l : List ℤ). getD l g (pos 0)) (axis-is w h) ∙ getD-places (λ i. amplitude (bitsOf w i)) (pos 0) (2 ^ w) g k
 
-    below : natAbs (amplitude (bitsOf w g)) < 2 ^ 63
-    below =
-        let p : 2 ^ w < 2 ^ 63 = pow-lt (ltb→lt w 63 small) in
-        omega (arith, amplitude-below (bitsOf w g), ap (λ (n : ℕ). 2 ^ n) (length-bitsOf w g))
+-- The same in one number, four bits for a place, with 8 more than the amplitude
+abbrev pub packed : ℕ
+packed = 13393519687396333448
 
--- The three tables, computed
-pub axis-1 : negsuc 0 ∷ pos 1 ∷ [] ≡ axis 1
-unfolding axis upFrom amplitude bitsOf
-axis-1 = refl
+abbrev digit : ℕ → ℤ
+digit i = pos (packed / 2 ^ (4 * i) % 16) -ℤ pos 8
 
-pub axis-2 : negsuc 2 ∷ negsuc 0 ∷ pos 3 ∷ pos 1 ∷ [] ≡ axis 2
-unfolding axis upFrom amplitude bitsOf
-axis-2 = refl
+digits-are : map digit (upFrom 0 16) ≡ table
+unfolding upFrom
+digits-are = refl
 
-pub axis-3 : negsuc 6 ∷ negsuc 4 ∷ negsuc 0 ∷ negsuc 2 ∷ pos 7 ∷ pos 5 ∷ pos 1 ∷ pos 3 ∷ [] ≡ axis 3
-unfolding axis upFrom amplitude bitsOf
-axis-3 = refl
+pub packed-at : (w g : ℕ) → w ≤ 3 → g < 2 ^ w → pos (packed / 2 ^ (4 * (2 ^ w + g)) % 16) -ℤ pos 8 ≡ amplitude (bitsOf w g)
+packed-at w g h k =
+    sym (getD-places digit (pos 0) 16 (2 ^ w + g) (omega (arith, pow-mono h)))
+    ∙ ap (λ (l : List ℤ). getD l (2 ^ w + g) (pos 0)) digits-are ∙ table-at w g h k
 
 -- A symbol's point, by the two halves of its label
 pub point-halves : (q s : ℕ) → point (bitsOf q s) ≡ complexOf (amplitude (bitsOf (q - q / 2) (s / 2 ^ (q / 2)))) (amplitude (bitsOf (q / 2) (s % 2 ^ (q / 2))))

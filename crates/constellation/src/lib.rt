@@ -4,28 +4,18 @@ ghost use Prim.Native.Nat.{_+_, _*_, _-_, _/_, _%_, _<_, _≤_, _^_};
 ghost use Rattle.model.specs.Constellation.{amplitude, bitsOf, point};
 ghost use Rattle.constellation.specs.Axis.{complexOf};
 
-// The amplitudes of an axis of 1, 2 and 3 bits, by rising label.
-const AXIS_1: [i64; 2] = [-1, 1];
+// The amplitudes of axes of 0, 1, 2 and 3 bits by rising label, those of w bits from place 2^w on: 0; -1, 1; -3, -1, 3, 1; -7, -5, -1, -3, 7,
+// 5, 1, 3. A place is four bits and holds the amplitude and 8 more: a constant array would be copied at every use. An axis of no bits has the
+// amplitude 0: the imaginary one with Q = 1.
+const AXES: u64 = 13393519687396333448;
 
-const AXIS_2: [i64; 4] = [-3, -1, 3, 1];
-
-const AXIS_3: [i64; 8] = [-7, -5, -1, -3, 7, 5, 1, 3];
-
-// The amplitude of an axis label. An axis of no bits has the amplitude 0: the imaginary one with Q = 1.
+// The amplitude of an axis label.
 pub fn amplitude(bits: usize, label: usize) -> i64
     requires { ⌜ (bits ≤ 3) × (label < 2 ^ bits) ⌝ }
     ensures { λ r. ⌜ r ≡ amplitude (bitsOf bits label) ⌝ }
 {
-    if bits == 0 {
-        return 0;
-    }
-    if bits == 1 {
-        return AXIS_1[label];
-    }
-    if bits == 2 {
-        return AXIS_2[label];
-    }
-    AXIS_3[label]
+    let place = 4 * ((1 << bits) + label);
+    ((AXES >> place) & 15) as i64 - 8
 }
 
 // The upper bits of a symbol's label, which give the real amplitude.

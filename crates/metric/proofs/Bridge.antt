@@ -1,6 +1,7 @@
 -- The parts of both axes at a node, filled in by the table: a label's place holds its part, and the sum of the parts is the increment.
 use Prim.Native.Nat.{ℕ, suc, _+_, _-_, _*_, _/_, _%_, _^_, _≤_, _<_}
 use mathlib.Core.Path.{_≡_, sym, _∙_, ap, ap₂, subst}
+use mathlib.Core.Bool.{false, false≢true}
 use mathlib.Core.List.{List, _++_}
 use native.Mathlib.Nat.{le-of-lt, zero-add, mod-lt, mul-le-mul}
 use native.Mathlib.Omega.{arith}
@@ -13,7 +14,8 @@ use Rattle.model.specs.Block.{Every, Within, mostWidth, mostEntry, mostPrior}
 use Rattle.model.proofs.Numbers.{length-bitsOf}
 use Rattle.model.proofs.Bounds.{prior-cost-bound}
 use Rattle.metric.specs.Parts.{axisWidth, span, part, axisPart, realIn, imaginaryIn, childMetric, filledFrom, AllSmall}
-use Rattle.metric.specs.Rows.{rowStart, rowAt, childOf, VectorAsked, Measured}
+use Rattle.metric.specs.Parts.{nearestOf, floorOf}
+use Rattle.metric.specs.Rows.{rowStart, rowAt, childOf, VectorAsked, Measured, MeasuredFrom}
 use Rattle.metric.specs.Tables.{Axis, axisPlace, axisBits, axisPrior, labelProduct, labelCost, Tabled, tablePart, AxisAsked}
 use Rattle.metric.specs.Tables.Axis.{real, imaginary}
 use Rattle.metric.proofs.Filled.{from-length, from-before, from-at, from-all}
@@ -21,6 +23,7 @@ use Rattle.metric.proofs.Increments.{part-append, part-length, incremen
 use Rattle.metric.proofs.Rows.{diagonal-within}
 use Rattle.metric.proofs.Tables.{amplitude-few, axis-few, place-room, axis-priors}
 use Rattle.metric.proofs.Remainders.{remains}
+use Rattle.metric.proofs.Folds.{nearest-le}
 
 -- The parts of the labels of an axis of a row
 abbrev partOf : ℕ → ℕ → List ℤ → ℕ → Axis → ℤ → ℕ → ℕ
@@ -49,6 +52,16 @@ axis-small left diagonal priors w g h k few all =
           natAbs-sub left (diagonal *ℤ amplitude (bitsOf w g)),
           natAbs-mul-le diagonal (amplitude (bitsOf w g)) k (le-of-lt (amplitude-few w g few)),
         )
+
+-- and at least the square of the nearest distance
+axis-near : (left diagonal : ℤ) (priors : List ℤ) (w g : ℕ)
+    → let n = nearestOf (natAbs diagonal) w (natAbs left) in
+    n * n ≤ axisPart left diagonal priors w g
+unfolding axisPart
+axis-near left diagonal priors w g =
+    let h = subst (λ (n : ℕ). nearestOf (natAbs diagonal) n (natAbs left) ≤ natAbs (left -ℤ diagonal *ℤ amplitude (bitsOf w g)))
+    (length-bitsOf w g) (nearest-le left diagonal (bitsOf w g)) in
+    omega (arith, mul-le-mul h h)
 
 -- The two halves of a symbol's label are labels of the two axes
 upper : (q s : ℕ) → s < 2 ^ q → s / 2 ^ (q / 2) < 2 ^ (q - q / 2)
@@ -137,6 +150,25 @@ module _ {m q : ℕ} {numbers : List ℤ} (asked : VectorAsked m q numbers) (lev
         split =
             let e : q ≡ w + q / 2 = omega arith in
             ap (part numbers (axisPrior m q level real)) e ∙ part-append numbers (axisPrior m q level real) w (q / 2)
+
+    -- Every child is at least as far as the nearest point of the constellation
+    pub far-by : (diagonal d bound : ℕ) → diagonal ≡ natAbs (getD numbers (rowStart m level) (pos 0)) → bound ≤ d + floorOf q diagonal left
+        → (axes : List ℕ) → MeasuredFrom m q numbers level node d bound axes false
+    unfolding floorOf childMetric
+    far-by diagonal d bound e h axes = record {
+      far =
+          λ _ s _.
+          omega (
+            arith,
+            rw e at h,
+            child-by d s,
+            axis-near (left .re) (getD numbers (rowStart m level) (pos 0)) (part numbers (axisPrior m q level real) (q - q / 2)) (q - q / 2)
+                (s / 2 ^ (q / 2)),
+            axis-near (left .im) (getD numbers (rowStart m level) (pos 0)) (part numbers (axisPrior m q level imaginary) (q / 2)) (q / 2)
+                (s % 2 ^ (q / 2)),
+          );
+      parts = λ e. absurd (false≢true e);
+    }
 
     -- An array with both axes filled in by the table has the node's parts
     module _ {tables : List ℤ} (tabled : Tabled m q numbers tables)

@@ -7,5 +7,6 @@ pub mod Remainders
 pub mod Products
 pub mod Grid
 pub mod Tables
+pub mod Folds
 pub mod Bridge
 pub mod Link

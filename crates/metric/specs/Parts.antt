@@ -6,7 +6,7 @@ use mathlib.Core.List.{List, map}
 use lib.Dec.{eqb}
 use lib.IntN.{ℤ, pos, natAbs, _-ℤ_, _*ℤ_}
 use lib.ListN.{getD, set}
-use Rattle.model.specs.Constellation.{bitsOf, amplitude}
+use Rattle.model.specs.Constellation.{Complex, bitsOf, amplitude}
 use Rattle.model.specs.Metric.{priorCost}
 use Rattle.model.specs.Soft.{upFrom}
 use Rattle.model.specs.Block.{mostWidth}
@@ -39,6 +39,23 @@ axisCost priors w g = priorCost priors (bitsOf w g)
 -- The two together
 unfoldable pub axisPart : ℤ → ℤ → List ℤ → ℕ → ℕ → ℕ
 axisPart left diagonal priors w g = axisDistance left diagonal w g + axisCost priors w g
+
+-- How far apart two numbers are
+abbrev pub apart : ℕ → ℕ → ℕ
+apart a b = a - b + (b - a)
+
+-- The distance from a number of magnitude d to the nearest of the amplitudes of an axis of w bits, times the diagonal: the axis is folded
+-- at 0, which leaves the magnitude, and then at the middle of what is left
+unfoldable pub nearestOf : ℕ → ℕ → ℕ → ℕ
+nearestOf diagonal zero d = d
+nearestOf diagonal (suc w) d = nearestOf diagonal w (apart d (diagonal * 2 ^ w))
+
+-- The squared distance from what remains to the nearest point of the constellation, times the diagonal
+unfoldable pub floorOf : ℕ → ℕ → Complex → ℕ
+floorOf q diagonal left =
+    let re = nearestOf diagonal (q - q / 2) (natAbs (left .re)) in
+    let im = nearestOf diagonal (q / 2) (natAbs (left .im)) in
+    re * re + im * im
 
 -- A child's partial metric from its parent's and the parts of its two axis labels
 unfoldable pub childMetric : ℕ → ℕ → (ℕ → ℕ) → (ℕ → ℕ) → ℕ → ℕ

@@ -1,6 +1,7 @@
 -- A row of a vector read off its whole numbers by places, and what remains of y in it.
 use Prim.Native.Nat.{ℕ, suc, _+_, _-_, _*_, _≤_, _<_, _^_}
 use mathlib.Core.Path.{_≡_}
+use mathlib.Core.Bool.{Bool, true, false}
 use mathlib.Core.List.{List, map, _++_}
 use lib.IntN.{ℤ, pos, natAbs}
 use lib.ListN.{length, getD}
@@ -54,6 +55,11 @@ pub record Measured (m q : ℕ) (numbers : List ℤ) (i node : ℕ) (axes : List
   pub size : length axes ≡ 2 * span
   pub small : AllSmall axes
   pub child : (d s : ℕ) → s < 2 ^ q → childOf m q numbers i node d s ≡ childMetric q d (realIn axes) (imaginaryIn axes) s
+
+-- What is known of the children's partial metrics below a node of partial metric d: all are `bound` or more, or the parts are there
+pub record MeasuredFrom (m q : ℕ) (numbers : List ℤ) (i node d bound : ℕ) (axes : List ℕ) (r : Bool) : Type 0 where
+  pub far : r ≡ false → (s : ℕ) → s < 2 ^ q → bound ≤ childOf m q numbers i node d s
+  pub parts : r ≡ true → Measured m q numbers i node axes
 
 -- The parts of two complex numbers, an entry of R and a point, that are multiplied
 pub record Factors (a b x y : ℤ) : Type 0 where

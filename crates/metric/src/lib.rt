@@ -10,9 +10,9 @@ ghost use Rattle.model.specs.Metric.{bitCost};
 ghost use Rattle.model.specs.Block.{mostWidth, mostEntry};
 ghost use Rattle.constellation.specs.Axis.{complexOf};
 ghost use Rattle.block.specs.Contents.{complexAt};
-ghost use Rattle.metric.specs.Parts.{axisWidth, span, part, bitOf, axisCost, realIn, imaginaryIn, childMetric, rowMetric};
-ghost use Rattle.metric.specs.Parts.{filled, filledFrom, AllSmall};
-ghost use Rattle.metric.specs.Rows.{rowAt, remainderOf, VectorAsked, Measured, Factors, TermAsked};
+ghost use Rattle.metric.specs.Parts.{axisWidth, span, part, bitOf, axisCost, realIn, imaginaryIn, childMetric, rowMetric, apart, nearestOf};
+ghost use Rattle.metric.specs.Parts.{floorOf, filled, filledFrom, AllSmall};
+ghost use Rattle.metric.specs.Rows.{rowAt, remainderOf, VectorAsked, MeasuredFrom, Factors, TermAsked};
 ghost use Rattle.metric.specs.Tables.{tableSize, labelProduct, labelCost, entriesIn, tablePart, Tabled};
 ghost use Rattle.metric.specs.Tables.{AxisAsked, PriorsAsked, EntriesAsked};
 
@@ -303,23 +303,75 @@ fn remainder(numbers: &[i32], m: usize, q: usize, level: usize, node: u32) -> co
     constellation::Point { re, im }
 }
 
-// The parts of both axes at a node, in one array: those of the real labels, then, a span later, those of the imaginary ones.
+// How far apart two numbers are.
+fn gap(a: u64, b: u64) -> u64
+    ensures { λ r. ⌜ r ≡ apart a b ⌝ }
+{
+    if a < b { b - a } else { a - b }
+}
+
+// The distance from e to the nearest of the amplitudes of an axis of w bits, times the diagonal: the axis is folded at 0, and then at the
+// middle of what is left.
+fn folded(e: i64, diagonal: u64, w: usize) -> u64
+    requires { ⌜ (natAbs e < 2 ^ 30) × (diagonal ≤ mostEntry) × (w ≤ axisWidth) ⌝ }
+    ensures { λ r. ⌜ (r ≡ nearestOf diagonal w (natAbs e)) × (r < 2 ^ 30) ⌝ }
+{
+    let mut distance = integers::magnitude(e);
+    let mut k = w;
+    while k > 0 {
+        k -= 1;
+        distance = gap(distance, diagonal << k);
+    }
+    distance
+}
+
+// The same, with the three bits of an axis of 64-QAM made known to the compiler.
+fn nearest(e: i64, diagonal: u64, w: usize) -> u64
+    requires { ⌜ (natAbs e < 2 ^ 30) × (diagonal ≤ mostEntry) × (w ≤ axisWidth) ⌝ }
+    ensures { λ r. ⌜ (r ≡ nearestOf diagonal w (natAbs e)) × (r < 2 ^ 30) ⌝ }
+{
+    if w == 3 {
+        return folded(e, diagonal, 3);
+    }
+    folded(e, diagonal, w)
+}
+
+// The squared distance from what remains to the nearest point of the constellation, times the diagonal.
+fn floor(left: constellation::Point, diagonal: u64, q: usize) -> u64
+    requires { ⌜ (natAbs (left .re) < 2 ^ 30) × (natAbs (left .im) < 2 ^ 30) × (diagonal ≤ mostEntry) × (q ≤ mostWidth) ⌝ }
+    ensures { λ r. ⌜ (r ≡ floorOf q diagonal (complexOf (left .re) (left .im))) × (r < 2 ^ 61) ⌝ }
+{
+    let re = nearest(left.re, diagonal, q - q / 2);
+    let im = nearest(left.im, diagonal, q / 2);
+    re * re + im * im
+}
+
+// The parts of both axes at a node, in one array: those of the real labels, then, a span later, those of the imaginary ones. Where already
+// the nearest point of the constellation gives every child a partial metric of `bound` or more, this is false and nothing is measured.
 pub fn measure(
     shape: Shape,
     node: Node,
     numbers: &[i32],
     tables: &[i32; TABLE],
+    bound: u64,
     axes: &mut [u64; AXES],
-)
+) -> bool
     requires { ⌜ VectorAsked (shape .streams) (shape .width) (now numbers)
         × Tabled (shape .streams) (shape .width) (now numbers) (now tables)
-        × (0 < node .level) × (node .level ≤ shape .streams) × (length (now axes) ≡ 2 * span) × AllSmall (now axes) ⌝ }
-    ensures { λ _. ⌜ Measured (shape .streams) (shape .width) (now (numbers .entry)) (node .level - 1) (node .bits) (now (axes .exit)) ⌝ }
+        × (0 < node .level) × (node .level ≤ shape .streams) × (length (now axes) ≡ 2 * span) × AllSmall (now axes)
+        × (node .partial < 2 ^ 61) ⌝ }
+    ensures { λ r. ⌜ MeasuredFrom (shape .streams) (shape .width) (now (numbers .entry)) (node .level - 1) (node .bits) (node .partial)
+        bound (now (axes .exit)) r ⌝ }
 {
     let q = shape.width;
     let level = node.level - 1;
     let left = remainder(numbers, shape.streams, q, level, node.bits);
+    let diagonal = element(numbers, level * (2 * shape.streams - level));
+    if bound <= node.partial + floor(left, diagonal as u64, q) {
+        return false;
+    }
     let at = level * (4 * SPAN);
     fill_axis(tables, at, left.re, q - q / 2, 0, axes);
     fill_axis(tables, at + 2 * SPAN, left.im, q / 2, SPAN, axes);
+    true
 }

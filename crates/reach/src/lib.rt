@@ -20,7 +20,7 @@ pub const LIMITS: usize = 96;
 const SPAN: usize = 8;
 
 // The larger of two.
-fn larger(a: u64, b: u64) -> u64
+pub fn larger(a: u64, b: u64) -> u64
     ensures { λ r. ⌜ r ≡ max a b ⌝ }
 {
     if a < b { b } else { a }

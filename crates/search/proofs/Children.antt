@@ -1,8 +1,9 @@
 -- What the bounds say of a node's children, from the array of limits.
-use Prim.Native.Nat.{ℕ, suc, _+_, _-_, _*_, _/_, _%_, _≤_, _<_, _^_}
+use Prim.Native.Nat.{ℕ, suc, _+_, _-_, _*_, _/_, _%_, _≤_, _<_, _^_, max}
 use mathlib.Core.Path.{_≡_, refl, sym, _∙_, ap}
 use mathlib.Core.Bool.{true, false, true≢false}
 use mathlib.Core.List.{List}
+use mathlib.Core.Logic.{inl}
 use native.Mathlib.Nat.{mod-lt}
 use native.Mathlib.Omega.{arith}
 use lib.IntN.{ℤ}
@@ -11,13 +12,31 @@ use lib.Pow.{pow-pos}
 use lib.Seq.{length-take-le}
 use Rattle.model.specs.Block.{mostStreams, mostWidth}
 use Rattle.metric.specs.Parts.{childMetric, realIn, imaginaryIn}
-use Rattle.metric.specs.Rows.{Measured}
+use Rattle.metric.specs.Rows.{Measured, childOf}
 use Rattle.metric.specs.Tables.Axis.{real}
 use Rattle.cutoff.specs.Cut.{CutAt, ShutAsked}
 use Rattle.cutoff.specs.declared.Bounds.{Bounds}
 use Rattle.reach.specs.Reach.{limitsSize, entryPlace, symbolOf}
 use Rattle.siblings.specs.Rows.{Placed}
 use Rattle.search.specs.Expand.{BoundsOf, entriesOf, Expanded}
+
+-- All children are as far as the bounds
+pub far-all : (m q : ℕ) (numbers : List ℤ) (level bits partial label best : ℕ) (limits keys : List ℕ) {b : Bounds}
+    → BoundsOf m q level bits label best limits b → (bound : ℕ)
+    → bound ≡ max (max (b .best + 1) (b .free)) (max (b .chosen) (b .cap))
+    → ((s : ℕ) → s < 2 ^ q → bound ≤ childOf m q numbers (level - 1) bits partial s)
+    → Expanded m q numbers level bits partial label best limits keys keys false
+far-all m q numbers level bits partial label best limits keys o bound e far = record {
+  size = refl;
+  shut = λ _ s h. record {
+    above-best = omega (arith, o .best-is, far s h);
+    above-free = omega (arith, o .free-is, far s h);
+    above-chosen = omega (arith, o .chosen-is, far s h);
+    above-own = inl (omega (arith, o .cap-is, far s h));
+  };
+  keys = λ f. absurd (true≢false (sym f));
+  rows = λ f. absurd (true≢false (sym f));
+}
 
 module _ (m q : ℕ) (numbers : List ℤ) (level bits partial label best : ℕ) (limits keys axes : List ℕ)
     (measured : Measured m q numbers (level - 1) bits axes) where

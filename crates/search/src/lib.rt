@@ -6,7 +6,7 @@ use metric::Node;
 use metric::Shape;
 ghost use mathlib.Core.Path.{_≡_};
 ghost use mathlib.Core.Bool.{true, false, cond};
-ghost use Prim.Native.Nat.{_+_, _*_, _-_, _<_, _≤_, _^_, min};
+ghost use Prim.Native.Nat.{_+_, _*_, _-_, _<_, _≤_, _^_, min, max};
 ghost use lib.IntN.{natAbs};
 ghost use lib.ListN.{length, getD, set, take};
 ghost use mathlib.Core.List.{_++_};
@@ -315,6 +315,15 @@ fn bounds_of(task: Task, node: Node, kept: Kept, limits: &[u64]) -> Bounds
     }
 }
 
+// From this partial metric on every child would be cut.
+fn bound_of(bounds: Bounds) -> u64
+    requires { ⌜ bounds .best ≤ above ⌝ }
+    ensures { λ r. ⌜ r ≡ max (max (bounds .best + 1) (bounds .free)) (max (bounds .chosen) (bounds .cap)) ⌝ }
+{
+    let low = reach::larger(bounds.best + 1, bounds.free);
+    reach::larger(low, reach::larger(bounds.chosen, bounds.cap))
+}
+
 // The keys of a node's children, by the parts of their two axes; false, with no key filled in, where all of them would be cut.
 fn expand(
     task: Task,
@@ -328,7 +337,7 @@ fn expand(
     requires { ⌜ VectorAsked (task .streams) (task .width) (now numbers)
         × Tabled (task .streams) (task .width) (now numbers) (now tables)
         × (0 < node .level) × (node .level ≤ task .streams) × (node .partial < 2 ^ 61) × (keyCount (task .width) ≤ length (now keys))
-        × (length (now limits) ≡ limitsSize) ⌝ }
+        × (length (now limits) ≡ limitsSize) × (kept .best ≤ above) ⌝ }
     ensures { λ r. ⌜ Expanded (task .streams) (task .width) (now (numbers .entry)) (node .level) (node .bits) (node .partial) (kept .label)
         (kept .best) (now (limits .entry)) (now (keys .entry)) (now (keys .exit)) r ⌝ }
 {
@@ -337,9 +346,11 @@ fn expand(
         streams: task.streams,
         width: q,
     };
-    let mut axes = [0u64; AXES];
-    metric::measure(shape, node, numbers, tables, &mut axes);
     let bounds = bounds_of(task, node, kept, limits);
+    let mut axes = [0u64; AXES];
+    if !metric::measure(shape, node, numbers, tables, bound_of(bounds), &mut axes) {
+        return false;
+    }
     let own = metric::symbol_at(kept.label, q, (task.streams - node.level) * q);
     let at = 32 + (node.level - 1) * 16;
     if cutoff::shuts(q, node.partial, &axes, bounds, &limits[at..at + 16], own) {

@@ -135,7 +135,7 @@ pub +walk-spec : {M : Type 1} → statement M
     (λ c. omega (arith, c .before .before .before .before .before .pre .1 .3))
     (λ c. le-refl _)
     (λ c κs. let s = c .before .before .before .before .before .before .before in let w = s .pre .1 .0 in let inner = c .before .before .before .if1 .left in
-    (w .asked .vector, s .pre .1 .2, omega arith, w .inside, omega (arith, partial-few w), keys-room w inner (s .args .keys .now) (s .pre .1 .4), rw (limits-part (s .args .minima .now)) (limits-whole t s)))
+    (w .asked .vector, s .pre .1 .2, omega arith, w .inside, omega (arith, partial-few w), keys-room w inner (s .args .keys .now) (s .pre .1 .4), rw (limits-part (s .args .minima .now)) (limits-whole t s), w .lowest))
     (λ c. refl)
     (λ c. c .before .before .before .expand .ensures .size)
     (λ c. let s = c .before .before .before .before .before .before .before .before .before .before .before in let w = s .pre .1 .0 in

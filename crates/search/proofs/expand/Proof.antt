@@ -4,8 +4,10 @@ use mathlib.Core.Path.{refl}
 use native.Mathlib.Nat.{mul-le-mul}
 use native.Mathlib.Omega.{arith}
 use borrow.Author.Needs.{needs}
+use borrow.Author.Tests.{not-true, not-false}
 use lib.ListN.{getD, replicate}
-use Rattle.search.proofs.Children.{shut-asked, cut-all, filled-in}
+use Rattle.metric.specs.Rows.{Measured}
+use Rattle.search.proofs.Children.{far-all, shut-asked, cut-all, filled-in}
 use Rattle.search.proofs.expand.Statement.{statement}
 use Rattle.search.proofs.expand.Tie as tie
 
@@ -20,32 +22,36 @@ few s =
     let f : s .args .task .streams - s .args .node .level ≤ 3 = omega (arith, s .pre .0 .streams, s .pre .2) in
     omega (arith, mul-le-mul f (s .pre .0 .bits))
 
-measure-requires : tie.Need-measure-requires
-measure-requires c κs = let s = c .before .before .before in (s .pre .0, s .pre .1, s .pre .2, s .pre .3, refl, zeros-small 16)
+-- The parts are measured
+parts : (c : tie.Else1) → let s = c .before .before .before .before .before .before .before in
+    Measured (s .args .task .streams) (s .args .task .width) (s .args .numbers .now) (s .args .node .level - 1) (s .args .node .bits) (c .before .measure .last .1 .1 .1 .1 .1 .0)
+parts c = c .before .measure .ensures .parts (not-false _ (c .if1 .left))
 
 pub expand-spec : {M : Type 1} → statement M
 expand-spec =
     tie.close
     (tie.spec
-    measure-requires
     (λ c κs. search needs)
+    (λ c κs. omega (arith, c .bounds-of .ensures .best-is, c .before .before .before .pre .7))
+    (λ c κs. let s = c .before .before .before .before .before in (s .pre .0, s .pre .1, s .pre .2, s .pre .3, refl, zeros-small 16, s .pre .4))
+    (λ c. far-all _ _ _ _ _ _ _ _ _ _ (c .before .before .before .before .bounds-of .ensures) _ (c .before .before .before .bound-of .ensures) (c .before .measure .ensures .far (not-true _ (c .if1 .taken))))
     (λ c. search needs)
-    (λ c. omega (arith, few (c .before .before .before .before .before .before .before)))
-    (λ c κs. let s = c .before .before .before .before .before .before .before in (s .pre .0 .bits, omega (arith, few s)))
-    (λ c. search needs)
-    (λ c. search needs)
-    (λ c. search needs)
-    (λ c. search needs)
-    (λ c. search needs)
+    (λ c. omega (arith, few (c .before .before .before .before .before .before .before .before .before)))
+    (λ c κs. let s = c .before .before .before .before .before .before .before .before .before in (s .pre .0 .bits, omega (arith, few s)))
     (λ c. search needs)
     (λ c. search needs)
     (λ c. search needs)
-    (λ c κs. let s = c .before .before .before .before .before .before .before .before .before .before .before in
-    shut-asked _ _ _ _ _ _ _ (s .args .kept .best) _ (s .args .keys .now) _ (c .before .before .before .before .before .before .before .measure .ensures) (s .pre .2) (s .pre .3) (s .pre .0 .streams) (s .pre .6) _ refl _ (c .before .before .before .symbol-at .ensures)
+    (λ c. search needs)
+    (λ c. search needs)
+    (λ c. search needs)
+    (λ c. search needs)
+    (λ c. search needs)
+    (λ c κs. let s = c .before .before .before .before .before .before .before .before .before .before .before .before .before in
+    shut-asked _ _ _ _ _ _ _ (s .args .kept .best) _ (s .args .keys .now) _ (parts (c .before .before .before .before .before .before)) (s .pre .2) (s .pre .3) (s .pre .0 .streams) (s .pre .6) _ refl _ (c .before .before .before .symbol-at .ensures)
     (s .pre .0 .bits) (omega (arith, s .pre .4)))
-    (λ c. let s = c .before .before .before .before .before .before .before .before .before .before .before .before .before in
-    cut-all _ _ _ _ _ _ _ _ _ _ _ (c .before .before .before .before .before .before .before .before .before .measure .ensures) (s .pre .2) (s .pre .3) (s .pre .0 .streams) (s .pre .6) _ refl _ (c .before .before .before .before .before .symbol-at .ensures)
-    (c .before .before .before .before .before .before .before .before .bounds-of .ensures) (c .before .shuts .ensures (c .if1 .taken)))
-    (λ c κs. let s = c .before .before .before .before .before .before .before .before .before .before .before .before .before .before .before in let m = c .before .before .before .before .before .before .before .before .before .before .before .measure .ensures in (s .pre .0 .bits, omega (arith, s .pre .4), m .size, m .small, s .pre .5))
+    (λ c. let s = c .before .before .before .before .before .before .before .before .before .before .before .before .before .before .before in
+    cut-all _ _ _ _ _ _ _ _ _ _ _ (parts (c .before .before .before .before .before .before .before .before)) (s .pre .2) (s .pre .3) (s .pre .0 .streams) (s .pre .6) _ refl _ (c .before .before .before .before .before .symbol-at .ensures)
+    (c .before .before .before .before .before .before .before .before .before .before .before .before .bounds-of .ensures) (c .before .shuts .ensures (c .if2 .taken)))
+    (λ c κs. let s = c .before .before .before .before .before .before .before .before .before .before .before .before .before .before .before .before .before in let m = parts (c .before .before .before .before .before .before .before .before .before .before) in (s .pre .0 .bits, omega (arith, s .pre .4), m .size, m .small, s .pre .5))
     (λ c. search needs)
-    (λ c. filled-in _ _ _ _ _ _ _ _ _ _ _ (c .before .before .before .before .before .before .before .before .before .before .before .before .before .before .measure .ensures) (c .before .before .fill .ensures)))
+    (λ c. filled-in _ _ _ _ _ _ _ _ _ _ _ (parts (c .before .before .before .before .before .before .before .before .before .before .before .before .before)) (c .before .before .fill .ensures)))
