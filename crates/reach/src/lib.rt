@@ -9,12 +9,16 @@ ghost use Rattle.metric.specs.Parts.{axisWidth, filledFrom};
 ghost use Rattle.pruning.specs.Program.{mostBits};
 ghost use Rattle.reach.specs.Reach.{limitIn, limitsSize, AxisFilled, StreamFilled, Reaches, streamReach, chosenReach};
 
-// Where the widest limits of the first streams begin, and where the entries of the axes do; the places of the whole array.
-const FIRST: usize = 24;
+// The places of the array of limits: first a label's bits, then, from here on, the widest limits of the first streams;
+pub const FIRST: usize = 24;
 
-const ENTRIES: usize = 32;
+// then the entries of the axes,
+pub const ENTRIES: usize = 32;
 
-pub const LIMITS: usize = 96;
+// as many for a stream as its two axes have labels at most.
+pub const STREAM: usize = 2 * SPAN;
+
+pub const LIMITS: usize = ENTRIES + 4 * STREAM;
 
 // How many labels the widest axis has.
 const SPAN: usize = 8;

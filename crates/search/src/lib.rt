@@ -4,6 +4,7 @@ use cutoff::Bounds;
 use metric::AXES;
 use metric::Node;
 use metric::Shape;
+use metric::TABLE;
 ghost use mathlib.Core.Path.{_≡_};
 ghost use mathlib.Core.Bool.{true, false, cond};
 ghost use Prim.Native.Nat.{_+_, _*_, _-_, _<_, _≤_, _^_, min, max};
@@ -41,6 +42,17 @@ struct Kept {
 
 // Above every metric: an infinite least metric, and the key of a child that was tried.
 const ABOVE: u64 = 549755813888;
+
+// The places of the array of minima: the least metrics with each bit 0, then, from here on, those with it 1,
+const ONES: usize = 24;
+
+// then the limits with what they give.
+const LIMITS: usize = 2 * ONES;
+
+const MINIMA: usize = LIMITS + reach::LIMITS;
+
+// The places of the keys of all levels: four of 64 children and 8 rows.
+const KEYS: usize = 4 * 72;
 
 // What a search is asked: a vector's M, Q and C, and its allowance (document 01's term).
 pub struct Task {
@@ -135,7 +147,7 @@ fn opposite(bit: bool, minima: &[u64], i: usize) -> u64
     requires { ⌜ (i < 24) × (length (now minima) ≡ minimaSize) ⌝ }
     ensures { λ r. ⌜ r ≡ getD (cond bit (zerosOf (now (minima .entry))) (onesOf (now (minima .entry)))) i 0 ⌝ }
 {
-    if bit { minima[i] } else { minima[24 + i] }
+    if bit { minima[i] } else { minima[ONES + i] }
 }
 
 // The prior of bit i.
@@ -170,7 +182,7 @@ fn limit_all(task: Task, numbers: &[i32], best: Best, minima: &mut [u64])
     let mut i = 0;
     while i < n {
         let limit = limit_at(task, numbers, best, minima, i);
-        minima[48 + i] = limit;
+        minima[LIMITS + i] = limit;
         i += 1;
     }
 }
@@ -181,7 +193,7 @@ fn renew_limits(task: Task, numbers: &[i32], best: Best, minima: &mut [u64])
     ensures { λ _. ⌜ Renewed (vectorFor task (now (numbers .entry))) (best .label) (best .metric) (now (minima .entry)) (now (minima .exit)) ⌝ }
 {
     limit_all(task, numbers, best, minima);
-    reach::fill(task.streams, task.width, &mut minima[48..]);
+    reach::fill(task.streams, task.width, &mut minima[LIMITS..]);
 }
 
 // May a node of partial metric d be walked? `level` streams are not chosen yet, and `bits` are those that are.
@@ -192,7 +204,7 @@ fn passes(task: Task, kept: Kept, limits: &[u64], d: u64, level: usize, bits: u3
     if d <= kept.best {
         return true;
     }
-    if d < limits[24 + level] {
+    if d < limits[reach::FIRST + level] {
         return true;
     }
     d < reach::chosen(task.streams, task.width, limits, level, bits ^ kept.label)
@@ -213,7 +225,7 @@ fn judge(task: Task, kept: Kept, limits: &[u64], level: usize, child: Node) -> V
         }
         return Verdict::Stop;
     }
-    if child.partial < limits[24 + level] {
+    if child.partial < limits[reach::FIRST + level] {
         return Verdict::Cut;
     }
     Verdict::Ended
@@ -230,8 +242,8 @@ fn take_leaf(task: Task, leaf: Node, kept: Kept, numbers: &[i32], minima: &mut [
         (limitsOf (now (minima .exit))) × (length (now (minima .exit)) ≡ minimaSize) ⌝ }
 {
     let n = task.streams * task.width;
-    note(n, leaf.bits, leaf.partial, false, &mut minima[..24]);
-    note(n, leaf.bits, leaf.partial, true, &mut minima[24..48]);
+    note(n, leaf.bits, leaf.partial, false, &mut minima[..ONES]);
+    note(n, leaf.bits, leaf.partial, true, &mut minima[ONES..LIMITS]);
     let best = better(leaf.partial, leaf.bits, kept.best, kept.label);
     renew_limits(task, numbers, best, minima);
     Kept {
@@ -303,7 +315,7 @@ fn bounds_of(task: Task, node: Node, kept: Kept, limits: &[u64]) -> Bounds
 {
     Bounds {
         best: kept.best,
-        free: limits[24 + (node.level - 1)],
+        free: limits[reach::FIRST + (node.level - 1)],
         chosen: reach::chosen(
             task.streams,
             task.width,
@@ -311,7 +323,7 @@ fn bounds_of(task: Task, node: Node, kept: Kept, limits: &[u64]) -> Bounds
             node.level,
             node.bits ^ kept.label,
         ),
-        cap: limits[24 + node.level],
+        cap: limits[reach::FIRST + node.level],
     }
 }
 
@@ -330,7 +342,7 @@ fn expand(
     node: Node,
     kept: Kept,
     numbers: &[i32],
-    tables: &[i32; 128],
+    tables: &[i32; TABLE],
     limits: &[u64],
     keys: &mut [u64],
 ) -> bool
@@ -352,8 +364,15 @@ fn expand(
         return false;
     }
     let own = metric::symbol_at(kept.label, q, (task.streams - node.level) * q);
-    let at = 32 + (node.level - 1) * 16;
-    if cutoff::shuts(q, node.partial, &axes, bounds, &limits[at..at + 16], own) {
+    let at = reach::ENTRIES + (node.level - 1) * reach::STREAM;
+    if cutoff::shuts(
+        q,
+        node.partial,
+        &axes,
+        bounds,
+        &limits[at..at + reach::STREAM],
+        own,
+    ) {
         return false;
     }
     siblings::fill(q, node.partial, &axes, keys);
@@ -367,7 +386,7 @@ fn walk(
     node: Node,
     kept: Kept,
     numbers: &[i32],
-    tables: &[i32; 128],
+    tables: &[i32; TABLE],
     minima: &mut [u64],
     keys: &mut [u64],
 ) -> Kept
@@ -384,7 +403,7 @@ fn walk(
     if node.level == 0 {
         return take_leaf(task, node, kept, numbers, minima);
     }
-    if !expand(task, node, kept, numbers, tables, &minima[48..], keys) {
+    if !expand(task, node, kept, numbers, tables, &minima[LIMITS..], keys) {
         return kept;
     }
     let n: usize = 1 << task.width;
@@ -393,7 +412,7 @@ fn walk(
     let mut tried = 0;
     while tried < n {
         let child = next_child(task, node, keys);
-        match judge(task, k, &minima[48..], node.level, child) {
+        match judge(task, k, &minima[LIMITS..], node.level, child) {
             Verdict::Ended => return k,
             Verdict::Stop => return halted(k),
             Verdict::Enter => {
@@ -442,7 +461,7 @@ fn write_soft(task: Task, numbers: &[i32], minima: &[u64], soft: &mut [i32; 24])
     let mut i = 0;
     while i < n {
         let prior = prior_at(task, numbers, i);
-        soft[i] = soft_value(minima[24 + i], minima[i], prior, task.clip);
+        soft[i] = soft_value(minima[ONES + i], minima[i], prior, task.clip);
         i += 1;
     }
 }
@@ -464,9 +483,9 @@ pub fn search_vector(task: Task, numbers: &[i32], soft: &mut [i32; 24]) -> Found
         streams: task.streams,
         width: task.width,
     };
-    let mut tables = [0i32; 128];
+    let mut tables = [0i32; TABLE];
     metric::prepare(shape, numbers, &mut tables);
-    let mut minima = [ABOVE; 144];
+    let mut minima = [ABOVE; MINIMA];
     let none = Best {
         label: 0,
         metric: ABOVE,
@@ -483,7 +502,7 @@ pub fn search_vector(task: Task, numbers: &[i32], soft: &mut [i32; 24]) -> Found
         bits: 0,
         partial: 0,
     };
-    let mut keys = [0u64; 288];
+    let mut keys = [0u64; KEYS];
     let end = walk(task, root, start, numbers, &tables, &mut minima, &mut keys);
     write_soft(task, numbers, &minima, soft);
     Found {
