@@ -62,7 +62,7 @@ fn nonzero_mark(prior: i32) -> u32
 }
 
 // How many bits of the label go against the sign of their prior: the ones of the label under the priors' sign and non-zero masks.
-pub fn against(priors: &[i32], label: u32) -> u32
+fn against(priors: &[i32], label: u32) -> u32
     requires { ⌜ length (now priors) ≤ 32 ⌝ }
     ensures { λ r. ⌜ r ≡ against (now (priors .entry)) label ⌝ }
 {

@@ -69,7 +69,7 @@ struct Best {
 }
 
 // B + C with the prior, by the sign that the best label's bit gives it.
-fn reach(far: u64, prior: i64, bit: bool) -> i64
+fn clip_limit(far: u64, prior: i64, bit: bool) -> i64
     requires { ⌜ (far < 2 ^ 44) × (natAbs prior < 2 ^ 31) ⌝ }
     ensures { λ r. ⌜ r ≡ reachOf bit far prior ⌝ }
 {
@@ -166,7 +166,7 @@ fn limit_at(task: Task, numbers: &[i32], best: Best, minima: &[u64], i: usize) -
 {
     let bit = metric::bit_at(task.streams * task.width, best.label, i);
     let prior = prior_at(task, numbers, i);
-    let far = reach(best.metric + task.clip as u64, prior, bit);
+    let far = clip_limit(best.metric + task.clip as u64, prior, bit);
     limit(opposite(bit, minima, i), far)
 }
 

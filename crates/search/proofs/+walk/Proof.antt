@@ -2,7 +2,8 @@
 -- on the child says.
 use mathlib.Core.Logic.{⊎-elim}
 use mathlib.Core.Bool.{false}
-use mathlib.Core.Path.{_≡_, refl, _∙_, sym}
+use mathlib.Core.Path.{_≡_, refl, _∙_, sym, ap}
+use mathlib.Core.List.{List}
 use Prim.Native.Nat.{ℕ, _<_, _≤_, _+_, _-_, _*_, _/_, _%_, _^_}
 use native.Mathlib.Omega.{arith}
 use borrow.Author.Needs.{needs}
@@ -17,7 +18,7 @@ use Rattle.pruning.specs.Program.{takenIn, limitsOf, keptOf}
 use Rattle.pruning.proofs.Arrays.{part-length}
 use Rattle.pruning.proofs.Minima.{limits-part, limits-length}
 use Rattle.siblings.specs.Rows.{keyCount}
-use Rattle.search.specs.Limits.{minimaSize}
+use Rattle.search.specs.Limits.{minimaSize, verdictBy}
 use Rattle.search.proofs.Search.{Searching, partial-few, leaf-noted, kids-few, places-few, keys-room, keys-left, next-length, chosen-few}
 use Rattle.search.proofs.Search.{node-placed, shut, start, done}
 use Rattle.search.proofs.Search.{Turn, turn-of, child-asked, ended, halts, cut, counts, stops, onward}
@@ -122,8 +123,15 @@ turn : (t : ℕ) (g : walk-lts.After-judge (calls t) (walk-at t) walk.Post Inv �
 turn t g =
     let c = g .before .before .before .before .before in
     let l = loop t c in
+    let a = begin t c .args in
+    let k = l .loop .k in
     turn-of (begin t c .pre .1 .0) (node t c .if1 .left) (l .loop .inv .4) _ (l .loop .inv .0) (c .before .before .loop-test .taken)
-    (c .next-child .ensures) _ (rw (limits-part (l .loop .minima)) at (g .judge .ensures))
+    (c .next-child .ensures) _
+    (g .judge .ensures
+    ∙ ap
+    (λ (limits : List ℕ).
+    verdictBy (a .task .streams) (a .task .width) (k .count) (k .label) (k .best) limits (a .task .allowance) (a .node .level)
+    (c .next-child .result .partial) (c .next-child .result .level) (c .next-child .result .bits)) (limits-part (l .loop .minima)))
 
 pub +walk-spec : {M : Type 1} → statement M
 +walk-spec = close μ-walk λ t. walk-lts.spec (calls t) (walk-at t) walk.Post Inv μ-loop

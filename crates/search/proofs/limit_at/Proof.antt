@@ -1,4 +1,4 @@
--- The bit, its prior and the reach are the definition's; sizes and ranges are those asked.
+-- The bit, its prior and the limit by the clip are the definition's; sizes and ranges are those asked.
 use Prim.Native.Nat.{ℕ, _+_, _≤_, _<_, _*_, _^_, min}
 use mathlib.Core.Bool.{Bool, cond}
 use mathlib.Core.Path.{_≡_, sym, ap, _∙_}
@@ -40,8 +40,8 @@ limit-by v t i n bit eb prior ep u eu far ef en r er = er ∙ rw (eu, ef, ep, eb
 bit-at-requires : tie.Need-bit-at-requires
 bit-at-requires c κs = (c .before .before .pre .1, few (c .before .before))
 
-reach-requires : tie.Need-reach-requires
-reach-requires c κs =
+clip-limit-requires : tie.Need-clip-limit-requires
+clip-limit-requires c κs =
     let p = c .before .before in
     let s = p .before .before .before .before in
     let f : SFits w64 (p .prior-at .result) = sfits-of (p .prior-at .ok) in
@@ -59,10 +59,10 @@ returns c =
     let s = b .before .before .before .args in
     let v = vectorAt (s .task .streams) (s .task .width) (s .task .clip) (s .numbers .now) in
     let f : SFits w64 (p .prior-at .result) = sfits-of (p .prior-at .ok) in
-    let g : SFits w64 (r .reach .result) = sfits-of (r .reach .ok) in
+    let g : SFits w64 (r .clip-limit .result) = sfits-of (r .clip-limit .ok) in
     limit-by v (takenIn (s .best .label) (s .best .metric) (s .minima .now)) (s .i) (s .task .streams * s .task .width) _
-    (b .bit-at .ensures) (p .prior-at .result) (p .prior-at .ensures) _ (o .opposite .ensures) (r .reach .result)
-    (simp toZ-ofZ at (r .reach .ensures))
+    (b .bit-at .ensures) (p .prior-at .result) (p .prior-at .ensures) _ (o .opposite .ensures) (r .clip-limit .result)
+    (simp toZ-ofZ at (r .clip-limit .ensures))
     (ap (λ (m : ℕ). m * s .task .width) (sym (rows-count (s .task .streams) (s .task .width) (s .numbers .now)))) _
     (simp toZ-ofZ at (c .limit .ensures))
 
@@ -75,7 +75,7 @@ limit-at-spec =
     (λ c κs. search needs)
     (λ c. search needs)
     (λ c. search needs)
-    reach-requires
+    clip-limit-requires
     opposite-requires
     (λ c κs. search needs)
     returns)

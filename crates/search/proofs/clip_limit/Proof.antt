@@ -9,8 +9,8 @@ use mir.Facts.{toZ-ofZ, toZ-pos}
 use Rattle.integers.proofs.Fits.{sfits-abs}
 use Rattle.integers.proofs.Magnitudes.{natAbs-sub, natAbs-add}
 use Rattle.pruning.specs.Program.{reachOf}
-use Rattle.search.proofs.reach.Statement.{statement}
-use Rattle.search.proofs.reach.Tie as tie
+use Rattle.search.proofs.clip_limit.Statement.{statement}
+use Rattle.search.proofs.clip_limit.Tie as tie
 
 difference : (far : ℕ) (p : ℤ) → far < 2 ^ 44 → natAbs p < 2 ^ 31 → SFits w64 (pos far -ℤ p)
 difference far p h k = sfits-abs _ (omega (arith, natAbs-sub (pos far) p))
@@ -42,5 +42,5 @@ returns-2 c =
     let g = total (s .args .far) (s .args .prior) (s .pre .0) (s .pre .1) in
     simp (toZ-pos, toZ-ofZ, c .if1 .left)
 
-pub reach-spec : {M : Type 1} → statement M
-reach-spec = tie.close (tie.spec (λ c. search needs) sub-result returns add-result returns-2)
+pub clip-limit-spec : {M : Type 1} → statement M
+clip-limit-spec = tie.close (tie.spec (λ c. search needs) sub-result returns add-result returns-2)
