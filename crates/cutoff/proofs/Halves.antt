@@ -1,24 +1,21 @@
 -- A symbol by its two labels: the real one its upper half, the imaginary one its lower.
 use Prim.Native.Nat.{ℕ, _+_, _-_, _*_, _/_, _%_, _^_, _≤_, _<_, max}
-use mathlib.Core.Path.{_≡_, subst}
 use mathlib.Core.List.{List}
 use mathlib.Core.Logic.{_⊎_, inl, inr, ⊎-elim}
 use native.Mathlib.Nat.{mod-lt, zero-add}
 use native.Mathlib.Omega.{arith}
 use lib.Bits.{bitXor, xor-shr, xor-mod}
 use lib.ListN.{getD}
-use lib.Pow.{pow-pos, pow-mono, shr-lt}
+use lib.Pow.{pow-pos, pow-mono}
 use Rattle.metric.specs.Parts.{axisWidth, span, childMetric, realIn, imaginaryIn}
 use Rattle.metric.proofs.Shifts.{one-shifted}
+use Rattle.model.proofs.Numbers.{first-half}
 use Rattle.cutoff.specs.Cut.{symbolReach, CutAt}
 use Rattle.cutoff.specs.Axes.{LeastOf, NoneBelow, NoneOpen}
 
 -- An axis has at most a span of labels
 pub few-labels : (w : ℕ) → w ≤ axisWidth → 1 * 2 ^ w % 2 ^ 64 ≤ span
 few-labels w h = rw (one-shifted w (omega arith)) (pow-mono h)
-
-pub real-lt : (q s : ℕ) → s < 2 ^ q → s / 2 ^ (q / 2) < 2 ^ (q - q / 2)
-real-lt q s h = let e : q ≡ q - q / 2 + q / 2 = omega arith in shr-lt (q - q / 2) (q / 2) (subst (λ (x : ℕ). s < 2 ^ x) e h)
 
 pub imaginary-lt : (q s : ℕ) → s % 2 ^ (q / 2) < 2 ^ (q / 2)
 imaginary-lt q s = mod-lt s (pow-pos (q / 2))
@@ -30,7 +27,7 @@ pub none-open : (q : ℕ) (axes entries : List ℕ) (own row column : ℕ)
 unfolding symbolReach
 none-open q axes entries own row column re im s h =
     let a = s / 2 ^ (q / 2) in
-    let r : getD entries (bitXor a (own / 2 ^ (q / 2))) 0 ≤ column + getD axes a 0 = simp zero-add at (re a (real-lt q s h)) in
+    let r : getD entries (bitXor a (own / 2 ^ (q / 2))) 0 ≤ column + getD axes a 0 = simp zero-add at (re a (first-half q s h)) in
     let i = im (s % 2 ^ (q / 2)) (imaginary-lt q s) in
     rw (xor-shr s own (q / 2), xor-mod s own (q / 2)) (omega arith)
 
@@ -47,7 +44,7 @@ module _ (q partial : ℕ) (axes : List ℕ) (row column : ℕ) (re : LeastOf ax
   unfolding childMetric
   child-ge s h =
       let a = s / 2 ^ (q / 2) in
-      let r : row ≤ getD axes a 0 = simp zero-add at (re .least-le a (real-lt q s h)) in
+      let r : row ≤ getD axes a 0 = simp zero-add at (re .least-le a (first-half q s h)) in
       let i = im .least-le (s % 2 ^ (q / 2)) (imaginary-lt q s) in
       (omega arith, omega arith)
 

@@ -2,7 +2,10 @@
 use libc::STDERR_FILENO;
 use libc::STDIN_FILENO;
 use libc::STDOUT_FILENO;
-ghost use Rattle.listing_io.specs.Input.{Within};
+ghost use mathlib.Core.Path.{_≡_};
+ghost use lib.ListN.{length};
+ghost use Rattle.listing.specs.Text.{listingOf};
+ghost use Rattle.listing_io.specs.Input.{Within, Shown};
 
 // How many bytes are read at most: one more than the longest record has, so that a longer input is seen to be too long.
 const MOST: usize = 8208;
@@ -11,6 +14,12 @@ const MOST: usize = 8208;
 enum Input {
     Bytes(usize),
     Failed,
+}
+
+// What the program did: a listing of so many bytes was printed; or the input could not be read.
+pub enum Printed {
+    Listing(usize),
+    Nothing,
 }
 
 // Reads until the buffer is full or the input ends.
@@ -36,20 +45,28 @@ fn complain(text: &[u8]) {
     io::write_all(STDERR_FILENO, text);
 }
 
-// Prints the listing of a record.
-fn print(record: &[u8]) {
+// Prints the listing of a record; how many bytes that has.
+fn print(record: &[u8]) -> usize
+    ensures { λ r. ⌜ r ≡ length (listingOf (now («record» .entry))) ⌝ }
+{
     let mut text = [0u8; listing::MOST];
     let n = listing::list(record, &mut text);
     if !io::write_all(STDOUT_FILENO, &text[..n]) {
         complain(b"Standard output could not be written.\n");
     }
+    n
 }
 
-// The whole program.
-pub fn run() {
+// The whole program: the listing of at most MOST bytes of standard input.
+pub fn run() -> Printed
+    ensures { λ r. ⌜ Shown r ⌝ }
+{
     let mut input = [0u8; MOST];
     match read_input(&mut input) {
-        Input::Bytes(n) => print(&input[..n]),
-        Input::Failed => complain(b"Standard input could not be read.\n"),
+        Input::Bytes(n) => Printed::Listing(print(&input[..n])),
+        Input::Failed => {
+            complain(b"Standard input could not be read.\n");
+            Printed::Nothing
+        }
     }
 }

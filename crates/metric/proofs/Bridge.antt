@@ -6,12 +6,12 @@ use mathlib.Core.List.{List, _++_}
 use native.Mathlib.Nat.{le-of-lt, zero-add, mod-lt, mul-le-mul}
 use native.Mathlib.Omega.{arith}
 use lib.ListN.{length, getD}
-use lib.Pow.{pow-mono, pow-pos, shr-lt}
+use lib.Pow.{pow-mono, pow-pos}
 use lib.IntN.{ℤ, pos, natAbs, _-ℤ_, _*ℤ_}
 use Rattle.integers.proofs.Magnitudes.{natAbs-sub, natAbs-mul-le}
 use Rattle.model.specs.Constellation.{Complex, bitsOf, amplitude}
 use Rattle.model.specs.Block.{Every, Within, mostWidth, mostEntry, mostPrior}
-use Rattle.model.proofs.Numbers.{length-bitsOf}
+use Rattle.model.proofs.Numbers.{first-half, length-bitsOf}
 use Rattle.model.proofs.Bounds.{prior-cost-bound}
 use Rattle.metric.specs.Parts.{axisWidth, span, part, axisPart, realIn, imaginaryIn, childMetric, filledFrom, AllSmall}
 use Rattle.metric.specs.Parts.{nearestOf, floorOf}
@@ -64,9 +64,6 @@ axis-near left diagonal priors w g =
     omega (arith, mul-le-mul h h)
 
 -- The two halves of a symbol's label are labels of the two axes
-upper : (q s : ℕ) → s < 2 ^ q → s / 2 ^ (q / 2) < 2 ^ (q - q / 2)
-upper q s h = let e : q ≡ q - q / 2 + q / 2 = omega arith in shr-lt (q - q / 2) (q / 2) (subst (λ (x : ℕ). s < 2 ^ x) e h)
-
 to-room : (q : ℕ) (x : Axis) → q ≤ mostWidth → axisTo x + 2 ^ axisBits q x ≤ 2 * span
 to-room q real h = omega (arith, pow-mono (axis-few q real h))
 to-room q imaginary h = omega (arith, pow-mono (axis-few q imaginary h))
@@ -202,7 +199,7 @@ module _ {m q : ℕ} {numbers : List ℤ} (asked : VectorAsked m q numbers) (lev
             child =
                 λ d s h.
                 sym
-                (ap₂ (λ (a b : ℕ). d + (a + b)) (real-at (s / 2 ^ (q / 2)) (upper q s h))
+                (ap₂ (λ (a b : ℕ). d + (a + b)) (real-at (s / 2 ^ (q / 2)) (first-half q s h))
                 (imaginary-at (s % 2 ^ (q / 2)) (mod-lt s (pow-pos (q / 2))))
                 ∙ child-by d s);
           })

@@ -1,7 +1,7 @@
 -- Bits and numbers, for any width. The first bit counts for more than all the others together, so a number below 2 ^ w and a string of
 -- w bits determine each other, and shift and mask read off a bit.
 use Prim.Native.Nat.{ℕ, zero, suc, _+_, _-_, _*_, _/_, _%_, _^_, _<_}
-use mathlib.Core.Path.{_≡_, refl, sym, _∙_, ap, ap₂}
+use mathlib.Core.Path.{_≡_, refl, sym, _∙_, ap, ap₂, subst}
 use mathlib.Core.Logic.{_↔_}
 use mathlib.Core.Bool.{Bool, true, false, cond}
 use mathlib.Core.List.{List, [], _∷_, _++_, map, map-map, map-append}
@@ -9,7 +9,7 @@ use mathlib.Core.List.{List·Memᴰ·head, List·Memᴰ·tail}
 use native.Mathlib.Nat.{two-pow-succ, zero-add, add-zero, suc-add, add-suc, add-comm, mod-lt, mod-eq-of-lt, mul-lt-mul-of-pos-right, lt-of-mul-lt-mul-right}
 use native.Mathlib.Omega.{arith}
 use lib.ListN.{length, take, drop, length-append, length-drop}
-use lib.Pow.{pow-add, pow-pos, high, mod-pow-add, shr-shr}
+use lib.Pow.{pow-add, pow-pos, high, mod-pow-add, shr-lt, shr-shr}
 use lib.Dec.{eqb}
 use lib.Seq.{split-at}
 use Rattle.model.specs.Constellation.{Bits, number, bitsOf, symbols}
@@ -141,3 +141,7 @@ drop-bits (suc a) b n = rw suc-add (drop-bits a b n)
 
 pub low-bits : (b n : ℕ) → bitsOf b (n % 2 ^ b) ≡ bitsOf b n
 low-bits b n = number-injective _ _ (length-bitsOf b (n % 2 ^ b) ∙ sym (length-bitsOf b n)) (number-bitsOf b (n % 2 ^ b) (mod-lt n (pow-pos b)) ∙ sym (number-bitsOf-mod b n))
+
+-- The first half of a symbol's label is a label of that many bits
+pub first-half : (q s : ℕ) → s < 2 ^ q → s / 2 ^ (q / 2) < 2 ^ (q - q / 2)
+first-half q s h = let e : q ≡ q - q / 2 + q / 2 = omega arith in shr-lt (q - q / 2) (q / 2) (subst (λ (n : ℕ). s < 2 ^ n) e h)

@@ -1,6 +1,6 @@
 -- A stream's entries and the widest limit of the streams up to it: what filling them in makes of the array.
 use Prim.Native.Nat.{ℕ, suc, _+_, _-_, _*_, _/_, _%_, _^_, _≤_, _<_, max}
-use mathlib.Core.Path.{_≡_, sym, _∙_, ap, ap₂, subst}
+use mathlib.Core.Path.{_≡_, sym, _∙_, ap, ap₂}
 use mathlib.Core.Bool.{true}
 use mathlib.Core.List.{List}
 use mathlib.Core.Logic.{inl}
@@ -10,7 +10,7 @@ use native.Mathlib.Numerals.{add-one}
 use native.Mathlib.Omega.{arith}
 use lib.ListN.{length, getD, set, length-set}
 use lib.Seq.{getD-set-same, getD-set-other}
-use lib.Pow.{pow-pos, pow-mono, shr-lt, ones-lt}
+use lib.Pow.{pow-pos, pow-mono, ones-lt}
 use Rattle.model.specs.Block.{mostStreams, mostWidth}
 use Rattle.metric.specs.Tables.{Axis, axisBits}
 use Rattle.metric.specs.Tables.Axis.{real, imaginary}
@@ -18,13 +18,10 @@ use Rattle.metric.proofs.Tables.{axis-few}
 use Rattle.pruning.specs.Program.{mostBits}
 use Rattle.pruning.specs.Reach.{widestOf}
 use Rattle.pruning.proofs.Reach.{widest-split, widest-same}
+use Rattle.model.proofs.Numbers.{first-half}
 use Rattle.reach.specs.Reach.{limitIn, limitsSize, firstPlace, entryPlace, axisStart, axisReach, streamReach}
 use Rattle.reach.specs.Reach.{Reaches, AxisFilled, StreamFilled}
 use Rattle.reach.proofs.Axes.{axis-same, all-ones, halves}
-
--- A symbol's real half is a label of its axis
-pub real-half : (q s : ℕ) → s < 2 ^ q → s / 2 ^ (q / 2) < 2 ^ (q - q / 2)
-real-half q s h = let e : q ≡ q - q / 2 + q / 2 = omega arith in shr-lt (q - q / 2) (q / 2) (subst (λ (n : ℕ). s < 2 ^ n) e h)
 
 -- A symbol's reach is that of all its bits, by the entries of its two axes
 pub stream-is : (q : ℕ) (limit : ℕ → ℕ) (limits : List ℕ) (j s : ℕ)
@@ -33,7 +30,7 @@ pub stream-is : (q : ℕ) (limit : ℕ → ℕ) (limits : List ℕ) (j s : ℕ)
     → streamReach q limits j s ≡ axisReach limit (j * q) q s
 unfolding streamReach
 stream-is q limit limits j s entry h =
-    ap₂ max (entry real (s / 2 ^ (q / 2)) (real-half q s h)) (entry imaginary (s % 2 ^ (q / 2)) (mod-lt s (pow-pos (q / 2))))
+    ap₂ max (entry real (s / 2 ^ (q / 2)) (first-half q s h)) (entry imaginary (s % 2 ^ (q / 2)) (mod-lt s (pow-pos (q / 2))))
     ∙ halves limit (j * q) q s
 
 -- The bits of the first streams are within the array's

@@ -12,11 +12,12 @@ use borrow.Author.Tests.{lt-ltb, le-ltb, lt-leb, ltb-true, ltb-false}
 use lib.ListN.{length, getD, drop}
 use lib.Seq.{getD-take, getD-drop}
 use lib.IntN.{ℤ, pos, negsuc}
-use lib.Pow.{pow-pos, pow-mono, shr-lt}
+use lib.Pow.{pow-pos, pow-mono}
 use lib.Signed.{ltZ}
 use Rattle.model.specs.Metric.{Vector, labelBits, priorAt}
 use Rattle.model.specs.Block.{mostWidth}
 use Rattle.model.proofs.Lists.{any-upFrom, or-left, or-right}
+use Rattle.model.proofs.Numbers.{first-half}
 use Rattle.metric.specs.Parts.{axisWidth, span, bitOf}
 use Rattle.metric.specs.Tables.{Axis, axisBits}
 use Rattle.metric.specs.Tables.Axis.{real, imaginary}
@@ -84,9 +85,8 @@ entries-reach q limits j s few h =
 
     rows : s / 2 ^ (q / 2) < span
     rows =
-        let e : q ≡ q - q / 2 + q / 2 = omega arith in
         let half : q - q / 2 ≤ axisWidth = omega arith in
-        omega (arith, shr-lt (q - q / 2) (q / 2) (subst (λ (x : ℕ). s < 2 ^ x) e h), pow-mono half)
+        omega (arith, first-half q s h, pow-mono half)
 
     columns : s % 2 ^ (q / 2) < span
     columns =

@@ -5,6 +5,7 @@ use metric::AXES;
 use metric::Node;
 use metric::Shape;
 use metric::TABLE;
+use siblings::ABOVE;
 ghost use mathlib.Core.Path.{_≡_};
 ghost use mathlib.Core.Bool.{true, false, cond};
 ghost use Prim.Native.Nat.{_+_, _*_, _-_, _<_, _≤_, _^_, min, max};
@@ -39,9 +40,6 @@ struct Kept {
     label: u32,
     best: u64,
 }
-
-// Above every metric: an infinite least metric, and the key of a child that was tried.
-const ABOVE: u64 = 549755813888;
 
 // The places of the array of minima: the least metrics with each bit 0, then, from here on, those with it 1,
 const ONES: usize = 24;

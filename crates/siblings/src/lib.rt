@@ -9,8 +9,8 @@ ghost use Rattle.metric.specs.Parts.{span, AllSmall};
 ghost use Rattle.pruning.specs.Arrays.{leastFirst};
 ghost use Rattle.siblings.specs.Rows.{keyCount, RowLeast, Placed, Took};
 
-// Above every metric: the key of a child that was taken.
-const ABOVE: u64 = 549755813888;
+// Above every metric: the key of a child that was taken, and an infinite least metric.
+pub const ABOVE: u64 = 549755813888;
 
 // A child: its symbol, and its partial metric.
 pub struct Child {

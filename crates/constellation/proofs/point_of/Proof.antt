@@ -1,20 +1,18 @@
 -- The two halves of the label are labels of the two axes, and the point is made of their amplitudes.
 use borrow.Author.Needs.{needs, sfits-of}
-use mathlib.Core.Path.{_≡_, ap, ap₂, sym, subst, _∙_}
-use Prim.Native.Nat.{ℕ, _-_, _+_, _/_, _^_, _<_}
+use mathlib.Core.Path.{ap, ap₂, sym, _∙_}
+use Prim.Native.Nat.{ℕ, _-_, _/_}
 use native.Mathlib.Nat.{mod-lt}
 use native.Mathlib.Omega.{arith}
-use lib.Pow.{pow-pos, shr-lt}
+use lib.Pow.{pow-pos}
 use mir.Syntax.{w64}
 use mir.Facts.{toZ-ofZ}
 use Rattle.model.specs.Constellation.{amplitude, bitsOf}
+use Rattle.model.proofs.Numbers.{first-half}
 use Rattle.constellation.specs.Axis.{complexOf}
 use Rattle.constellation.proofs.Axes.{point-halves}
 use Rattle.constellation.proofs.point_of.Statement.{statement}
 use Rattle.constellation.proofs.point_of.Tie as tie
-
-upper : (q s : ℕ) → s < 2 ^ q → s / 2 ^ (q / 2) < 2 ^ (q - q / 2)
-upper q s h = let e : q ≡ q - q / 2 + q / 2 = omega arith in shr-lt (q - q / 2) (q / 2) (subst (λ (x : ℕ). s < 2 ^ x) e h)
 
 returns : tie.Need-returns
 returns c =
@@ -32,7 +30,7 @@ point-of-spec =
     (tie.spec
     (λ c. search needs)
     (λ c κs. c .pre .0)
-    (λ c κs. (omega (arith, c .before .pre .0), rw (c .real-label .ensures) (upper (c .before .args .q) (c .before .args .symbol) (c .before .pre .1))))
+    (λ c κs. (omega (arith, c .before .pre .0), rw (c .real-label .ensures) (first-half (c .before .args .q) (c .before .args .symbol) (c .before .pre .1))))
     (λ c κs. c .before .before .pre .0)
     (λ c κs. (omega (arith, c .before .before .before .pre .0), rw (c .imaginary-label .ensures) (mod-lt (c .before .before .before .args .symbol) (pow-pos (c .before .before .before .args .q / 2)))))
     returns)

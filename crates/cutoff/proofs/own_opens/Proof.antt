@@ -1,4 +1,5 @@
 -- The two axes one after the other: a shift reads the best label's real label off, a mask its imaginary one.
+use Rattle.model.proofs.Numbers.{first-half}
 use borrow.Author.Needs.{needs}
 use Prim.Native.Nat.{ℕ, _-_, _*_, _/_, _%_, _^_, _≤_, _<_}
 use mathlib.Core.Path.{_≡_}
@@ -7,7 +8,7 @@ use lib.Bits.{bitAnd, and-mask}
 use lib.Pow.{pow-pos, pow-mono}
 use Rattle.metric.specs.Parts.{axisWidth, span}
 use Rattle.metric.proofs.Shifts.{one-shifted}
-use Rattle.cutoff.proofs.Halves.{few-labels, real-lt, imaginary-lt, none-open}
+use Rattle.cutoff.proofs.Halves.{few-labels, imaginary-lt, none-open}
 use Rattle.cutoff.proofs.own_opens.Statement.{statement}
 use Rattle.cutoff.proofs.own_opens.Tie as tie
 
@@ -16,7 +17,7 @@ real-label : (c : tie.Start) → c .args .own / 2 ^ (c .args .q / 2) < span
 real-label c =
     let q = c .args .q in
     let h : q - q / 2 ≤ axisWidth = omega (arith, c .pre .bits) in
-    omega (arith, real-lt q (c .args .own) (c .pre .symbol), pow-mono h)
+    omega (arith, first-half q (c .args .own) (c .pre .symbol), pow-mono h)
 
 columns : (c : tie.Start) → 1 * 2 ^ (c .args .q / 2) % 2 ^ 64 ≡ 2 ^ (c .args .q / 2)
 columns c = one-shifted (c .args .q / 2) (omega (arith, c .pre .bits))

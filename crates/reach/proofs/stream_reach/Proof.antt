@@ -1,4 +1,5 @@
 -- The entries of the symbol's two halves.
+use Rattle.model.proofs.Numbers.{first-half}
 use borrow.Author.Needs.{needs}
 use mathlib.Core.Path.{_≡_, _∙_, ap}
 use Prim.Native.Nat.{ℕ, _+_, _-_, _*_, _/_, _%_, _^_, _≤_, _<_, max}
@@ -11,7 +12,6 @@ use Rattle.metric.specs.Parts.{axisWidth, span}
 use Rattle.metric.specs.Tables.Axis.{real, imaginary}
 use Rattle.metric.proofs.Shifts.{one-shifted}
 use Rattle.reach.specs.Reach.{entryPlace, streamReach}
-use Rattle.reach.proofs.Streams.{real-half}
 use Rattle.reach.proofs.stream_reach.Statement.{statement}
 use Rattle.reach.proofs.stream_reach.Tie as tie
 
@@ -20,7 +20,7 @@ real-few : (c : tie.After-shared-slice-known) → c .before .args .symbol / 2 ^ 
 real-few c =
     let q = c .before .args .q in
     let k : q - q / 2 ≤ axisWidth = omega (arith, c .before .pre .0) in
-    omega (arith, real-half q (c .before .args .symbol) (c .before .pre .2), pow-mono k)
+    omega (arith, first-half q (c .before .args .symbol) (c .before .pre .2), pow-mono k)
 
 mask-is : (c : tie.After-shared-slice-known)
     → let a = c .before .args in
