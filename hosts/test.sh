@@ -3,7 +3,8 @@
 # (the gate checks that it still does). Says what is wrong and ends with status 1, or ends with 0.
 set -eu
 cd "$(dirname "$0")/.."
-samples="samples/example.rec samples/stopped.rec samples/priors.rec samples/full.rec samples/refused.rec"
+samples="samples/example.rec samples/stopped.rec samples/priors.rec samples/full.rec samples/wide.rec samples/refused.rec
+    samples/refused-wide.rec"
 
 fail() {
     echo "hosts: $1"
@@ -32,17 +33,17 @@ complains() {
 
 hosts/build.sh || fail "the host programs do not build"
 
-# Samples: word for word, and the exit status says that one is refused.
+# Samples: word for word, and the exit status says that some are refused.
 expect 1 "the samples" build/detect $samples
 same hosts/expected/samples build/printed "the samples"
-expect 0 "accepted samples" build/detect samples/example.rec samples/full.rec
+expect 0 "accepted samples" build/detect samples/example.rec samples/full.rec samples/wide.rec
 
-# Every refusal in words: 1 to 13 by a record each, 14 by a buffer that is a byte short.
+# Every refusal in words: 1 to 13 and 15 by a record each, 14 by a buffer that is a byte short.
 mkdir -p build/refusals
 cargo run --quiet --offline --release --manifest-path rust/Cargo.toml --bin samples -- --refusals build/refusals ||
     fail "the records for the refusals cannot be made"
 : >build/refusals/printed
-for number in 1 2 3 4 5 6 7 8 9 10 11 12 13; do
+for number in 1 2 3 4 5 6 7 8 9 10 11 12 13 15; do
     expect 1 "refusal $number" build/detect "build/refusals/$number.rec"
     sed "s|^build/refusals/||" build/printed >>build/refusals/printed
 done

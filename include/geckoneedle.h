@@ -27,7 +27,7 @@ extern "C" {
  */
 #define GECKONEEDLE_REPLY_ROOM(m, q, n) ((size_t)7 + (size_t)(n) * ((size_t)9 + (size_t)4 * (size_t)(m) * (size_t)(q)))
 
-/* The largest of these: four streams, six bits, 64 vectors. A buffer of this size is never refused. */
+/* The largest of these: four streams of six bits or three of eight, 64 vectors. A buffer of this size is never refused. */
 #define GECKONEEDLE_REPLY_MAX 6727
 
 /*
@@ -39,7 +39,7 @@ enum geckoneedle_refusal {
     GECKONEEDLE_ENDS = 2,       /* the record ends before a number's last group */
     GECKONEEDLE_MALFORMED = 3,  /* a number of four groups that has no last one, or whose last group is 0 after another */
     GECKONEEDLE_STREAMS = 4,    /* M is not 1 to 4 */
-    GECKONEEDLE_WIDTH = 5,      /* Q is not 1, 2, 4 or 6 */
+    GECKONEEDLE_WIDTH = 5,      /* Q is not 1, 2, 4, 6 or 8 */
     GECKONEEDLE_VECTORS = 6,    /* N is not 1 to 64 */
     GECKONEEDLE_CLIP = 7,       /* C is above 16,777,215 */
     GECKONEEDLE_SHARE = 8,      /* D is not M to 17,043,520 */
@@ -48,7 +48,8 @@ enum geckoneedle_refusal {
     GECKONEEDLE_RECEIVED = 11,  /* a part of y is not -131,071 to 131,071 */
     GECKONEEDLE_PRIOR = 12,     /* a prior is not -1,048,575 to 1,048,575 */
     GECKONEEDLE_TRAILING = 13,  /* bytes follow the last prior */
-    GECKONEEDLE_BUFFER = 14     /* the reply buffer is shorter than GECKONEEDLE_REPLY_ROOM(M, Q, N) */
+    GECKONEEDLE_BUFFER = 14,    /* the reply buffer is shorter than GECKONEEDLE_REPLY_ROOM(M, Q, N) */
+    GECKONEEDLE_FOUR_WIDE = 15  /* Q is 8 and M is 4, where three streams are the most; checked after 5, before N is read */
 };
 
 /*

@@ -39,6 +39,29 @@ impl Mul for Complex {
     }
 }
 
+/// M and Q: all pairs that a record may have.
+pub const SHAPES: [(usize, usize); 19] = [
+    (1, 1),
+    (2, 1),
+    (3, 1),
+    (4, 1),
+    (1, 2),
+    (2, 2),
+    (3, 2),
+    (4, 2),
+    (1, 4),
+    (2, 4),
+    (3, 4),
+    (4, 4),
+    (1, 6),
+    (2, 6),
+    (3, 6),
+    (4, 6),
+    (1, 8),
+    (2, 8),
+    (3, 8),
+];
+
 /// A block: M streams of Q bits, the clip C, the share D, and N vectors.
 #[derive(Clone, Debug, PartialEq, Eq)]
 pub struct Block {

@@ -1,6 +1,8 @@
-//! Test records for a record reader: every refusal of document 01's table at its first and last place, both ends of every range,
-//! cut and over-long numbers, the order of checks, and records made and damaged by chance from a fixed seed.
+//! Test records for a record reader: every refusal of document 01's table at its first and last place, document 02's 15 wherever it
+//! can be mistaken, both ends of every range, every pair of M and Q, cut and over-long numbers, the order of checks, and records made
+//! and damaged by chance from a fixed seed.
 
+use crate::block::SHAPES;
 use crate::chance::Chance;
 use crate::record::{encode, places, Numbers, Place, Refusal, OPENING};
 
@@ -40,19 +42,27 @@ pub fn all() -> Vec<Case> {
         listing_record(),
         bench_readings(),
         stream_counts(),
-        bit_counts(),
+        bit_counts(2),
+        bit_counts(4),
+        eight_bits(),
+        eight_bits_of_four_streams(),
+        not_eight_bits_of_four_streams(),
+        pairs_of_sizes(),
         vector_counts(),
         clips(),
         shares(),
         range_ends("2 streams", &small()),
         range_ends("4 streams", &wide()),
-        rows_of_the_table(),
+        range_ends("2 streams of 8 bits", &sized(2, 8, 1)),
+        rows_of_the_table("4 bits", &sized(3, 4, 2)),
+        rows_of_the_table("8 bits", &sized(3, 8, 2)),
         largest_record(),
         order_of_checks(&small()),
         ends_of_checks(&small()),
         number_forms(),
         cuts("2 streams", &small()),
         cuts("4 streams", &wide()),
+        cuts("3 streams of 8 bits", &sized(3, 8, 1)),
         over_long_everywhere(&wide()),
         replaced_bytes(),
         undamaged_by_chance(),
@@ -66,10 +76,10 @@ pub fn all() -> Vec<Case> {
 // Numbers by chance.
 
 /// The range of a number that has one, by document 01.
-fn range(place: Place, streams: i64) -> (i64, i64) {
+pub fn range(place: Place, streams: i64) -> (i64, i64) {
     match place {
         Place::Streams => (1, 4),
-        Place::Bits => (1, 6),
+        Place::Bits => (1, 8),
         Place::Vectors => (1, 64),
         Place::Clip => (0, 16_777_215),
         Place::Share => (streams, 17_043_520),
@@ -139,7 +149,7 @@ impl Parts {
         self.with(at, &self.places[at].bytes(number))
     }
 
-    /// The same with a number one above its range (for Q, which has no range, 7).
+    /// The same with a number one above its range (for Q, which has gaps too, above the last).
     fn with_beyond(&self, at: usize) -> Parts {
         self.with_number(at, range(self.places[at], 1).1 + 1)
     }
@@ -184,14 +194,19 @@ fn wide() -> Parts {
     Parts::of(&numbers_by_chance(&mut Chance(4), 4, 6, 1))
 }
 
-/// The record of the most bytes: 64 vectors of four streams of six bits, each number as long as it can be in its range.
+/// The record of the most bytes: four streams of six bits.
 fn largest() -> Parts {
+    longest(4, 6)
+}
+
+/// The longest record of M and Q: 64 vectors, each number as long as it can be in its range.
+fn longest(streams: i64, bits: i64) -> Parts {
     let mut chance = Chance(64);
     let mut long = |place: &Place| {
         let sign = 1 - 2 * chance.between(0, 1);
         match place {
-            Place::Streams => 4,
-            Place::Bits => 6,
+            Place::Streams => streams,
+            Place::Bits => bits,
             Place::Vectors => 64,
             Place::Clip => 16_777_215,
             Place::Share => 17_043_520,
@@ -201,7 +216,7 @@ fn largest() -> Parts {
             Place::Prior => sign * chance.between(8_193, 1_048_575),
         }
     };
-    Parts::of(&places(4, 6, 64).iter().map(&mut long).collect::<Numbers>())
+    Parts::of(&places(streams, bits, 64).iter().map(&mut long).collect::<Numbers>())
 }
 
 /// A record of these sizes whose vectors are made by chance.
@@ -285,16 +300,113 @@ fn stream_counts() -> Vec<Case> {
     right.chain(small).chain(large).collect()
 }
 
-/// Row 5: every Q from 0 to 9, and numbers that are 1 in their last 8 or 16 bits.
-fn bit_counts() -> Vec<Case> {
-    let small = (0..=9).map(|bits| {
-        let bytes = sized(2, bits, 2).bytes();
-        let intent = if [1, 2, 4, 6].contains(&bits) { Intent::Accepted } else { Intent::Refused(5) };
-        Case { about: format!("Q = {bits}"), bytes, intent }
+/// What M and Q, M being in its range, make of a record in which all else is right.
+fn intent_of(streams: i64, bits: i64) -> Intent {
+    match (streams, bits) {
+        (4, 8) => Intent::Refused(15),
+        (_, 1 | 2 | 4 | 6 | 8) => Intent::Accepted,
+        _ => Intent::Refused(5),
+    }
+}
+
+/// Row 5, and 15 where there are four streams: every Q from 0 to 10, and numbers that are 1 or 8 in their last 8 or 16 bits.
+fn bit_counts(streams: i64) -> Vec<Case> {
+    let about = |bits: i64| format!("M = {streams}, Q = {bits}");
+    let small = (0..=10).map(|bits| {
+        let bytes = sized(streams, bits, 2).bytes();
+        Case { about: about(bits), bytes, intent: intent_of(streams, bits) }
     });
-    let large =
-        [127, 257, 65_537, GREATEST].map(|bits| refused(format!("Q = {bits}"), sized(2, 1, 2).with_number(1, bits).bytes(), 5));
+    let large = [127, 257, 264, 65_537, 65_544, GREATEST]
+        .map(|bits| refused(about(bits), sized(streams, 1, 2).with_number(1, bits).bytes(), 5));
     small.chain(large).collect()
+}
+
+/// Q = 8 with each M that may have it, the longest such record, and N, C and D at their ends and beyond them. 16,843,008 is the
+/// number of nodes of the largest tree.
+fn eight_bits() -> Vec<Case> {
+    let each = (1..=3).map(|streams| accepted(format!("M = {streams}, Q = 8"), sized(streams, 8, 1).bytes()));
+    let longest = [accepted("M = 3, Q = 8, N = 64".to_string(), longest(3, 8).bytes())];
+    let record = sized(3, 8, 1);
+    let with = |at: usize, number: i64| {
+        let about = format!("M = 3, Q = 8: number {} is {number}", at + 1);
+        (about, record.with_number(at, number).bytes())
+    };
+    let ends = [(3, 0), (3, 16_777_215), (4, 3), (4, 16_843_008), (4, 17_043_520)].map(|(at, number)| {
+        let (about, bytes) = with(at, number);
+        accepted(about, bytes)
+    });
+    let beyond = [(2, 0), (2, 65), (3, 16_777_216), (4, 2), (4, 17_043_521)].map(|(at, number)| {
+        let (about, bytes) = with(at, number);
+        refused(about, bytes, row(record.places[at]))
+    });
+    each.chain(longest).chain(ends).chain(beyond).collect()
+}
+
+/// 15 stands at Q, before anything is asked of N: the record is right from there on, ends there, or goes on with what would be refused
+/// by 2, 3, 6, 7, 8, 12 or 13.
+fn eight_bits_of_four_streams() -> Vec<Case> {
+    let record = sized(4, 8, 1);
+    let after: [(&str, &[u8]); 11] = [
+        ("nothing after it", &[]),
+        ("N cut off", &[0x80]),
+        ("N cut off after three groups", &[0xFF, 0xFF, 0xFF]),
+        ("N over-long", &OVER_LONG),
+        ("N of five groups", &[0x81, 0x80, 0x80, 0x80, 0x00]),
+        ("N = 0", &[0x00]),
+        ("N = 65", &[0x41]),
+        ("N = 64, nothing after it", &[0x40]),
+        ("C above its range", &[0x01, 0x80, 0x80, 0x80, 0x08]),
+        ("D = 0", &[0x01, 0x00, 0x00]),
+        ("bytes that are no record", &[0xFF; 9]),
+    ];
+    let about = |what: &str| format!("M = 4, Q = 8, {what}");
+    let goes_on = |(what, bytes): (&str, &[u8])| refused(about(what), [record.first(2), bytes.to_vec()].concat(), 15);
+    let whole = [
+        refused(about("all else right"), record.bytes(), 15),
+        refused(about("the last prior out of range"), record.with_beyond(record.count() - 1).bytes(), 15),
+        refused(about("a byte too many"), record.bytes_and(&[0x00]), 15),
+    ];
+    after.into_iter().map(goes_on).chain(whole).collect()
+}
+
+/// What comes before 15, or is near it: the opening, M and Q as numbers, 4, 5, and Q = 8 with fewer streams.
+fn not_eight_bits_of_four_streams() -> Vec<Case> {
+    let sizes: [(&[u8], Refusal); 14] = [
+        (&[0x05, 0x08], 4),
+        (&[0x00, 0x08], 4),
+        (&[0x84, 0x01, 0x08], 4),
+        (&[0x84, 0x00, 0x08], 3),
+        (&[0x04], 2),
+        (&[0x04, 0x88], 2),
+        (&[0x04, 0x88, 0x00], 3),
+        (&[0x04, 0x88, 0x80, 0x80, 0x80, 0x00], 3),
+        (&[0x04, 0x88, 0x01], 5),
+        (&[0x04, 0x09], 5),
+        (&[0x04, 0x07, 0x80, 0x00], 5),
+        (&[0x03, 0x08], 2),
+        (&[0x03, 0x08, 0x00], 6),
+        (&[0x03, 0x08, 0x80, 0x00], 3),
+    ];
+    let opened = |(bytes, refusal): (&[u8], Refusal)| {
+        refused(format!("sizes {bytes:02X?}"), [OPENING.as_slice(), bytes].concat(), refusal)
+    };
+    let wrong_opening = refused("wrong opening, M = 4, Q = 8".to_string(), vec![0x43, 0x42, 0x52, 0x30, 0x04, 0x08], 1);
+    sizes.into_iter().map(opened).chain([wrong_opening]).collect()
+}
+
+/// The listing record with M from 0 to 5 and Q from 0 to 10 in place of its own; what follows is right for few of them.
+fn pairs_of_sizes() -> Vec<Case> {
+    let record = encode(&listing());
+    let with = |streams: u8, bits: u8| {
+        let bytes = [OPENING.as_slice(), &[streams, bits], &record[6..]].concat();
+        let intent = match intent_of(streams.into(), bits.into()) {
+            _ if !(1..=4).contains(&streams) => Intent::Refused(4),
+            Intent::Accepted => Intent::Either,
+            refused => refused,
+        };
+        Case { about: format!("listing with M = {streams}, Q = {bits}"), bytes, intent }
+    };
+    (0..=5).flat_map(|streams| (0..=10).map(move |bits| with(streams, bits))).collect()
 }
 
 /// Row 6: N at both ends and beyond them.
@@ -352,28 +464,28 @@ fn range_ends_at(of: &str, record: &Parts, at: usize) -> Vec<Case> {
     ]
 }
 
-/// Rows 2 to 13 in a record of three streams and two vectors, each at the first and the last place where it can occur.
-fn rows_of_the_table() -> Vec<Case> {
-    let record = sized(3, 4, 2);
+/// Rows 2 to 13 in a record of several streams and two vectors, each at the first and the last place where it can occur.
+fn rows_of_the_table(of: &str, record: &Parts) -> Vec<Case> {
     let last = record.count() - 1;
     let sizes = [Place::Streams, Place::Bits, Place::Vectors, Place::Clip, Place::Share];
     let parts = [Place::Diagonal, Place::Right, Place::Received, Place::Prior];
+    let about = |what: &str| format!("{of}: {what}");
     let beyond = |place: Place| {
         let at = [record.first_place(place), record.last_place(place)];
-        at.map(|at| refused(format!("row {}: number {}", row(place), at + 1), record.with_beyond(at).bytes(), row(place)))
+        at.map(|at| refused(about(&format!("row {}: number {}", row(place), at + 1)), record.with_beyond(at).bytes(), row(place)))
     };
     let malformed = [
-        refused("row 2: before M".to_string(), record.first(0), 2),
-        refused("row 2: within M".to_string(), [record.first(0), vec![0x81]].concat(), 2),
-        refused("row 2: before the last prior".to_string(), record.first(last), 2),
-        refused("row 2: within the last prior".to_string(), [record.first(last), vec![0x81]].concat(), 2),
-        refused("row 3: at M".to_string(), record.with(0, &OVER_LONG).bytes(), 3),
-        refused("row 3: at the last prior".to_string(), record.with(last, &OVER_LONG).bytes(), 3),
-        refused("row 13: one byte".to_string(), record.bytes_and(&[0x00]), 13),
-        refused("row 13: a number cut off".to_string(), record.bytes_and(&[0x80]), 13),
-        refused("row 13: the record again".to_string(), record.bytes_and(&record.bytes()), 13),
+        refused(about("row 2: before M"), record.first(0), 2),
+        refused(about("row 2: within M"), [record.first(0), vec![0x81]].concat(), 2),
+        refused(about("row 2: before the last prior"), record.first(last), 2),
+        refused(about("row 2: within the last prior"), [record.first(last), vec![0x81]].concat(), 2),
+        refused(about("row 3: at M"), record.with(0, &OVER_LONG).bytes(), 3),
+        refused(about("row 3: at the last prior"), record.with(last, &OVER_LONG).bytes(), 3),
+        refused(about("row 13: one byte"), record.bytes_and(&[0x00]), 13),
+        refused(about("row 13: a number cut off"), record.bytes_and(&[0x80]), 13),
+        refused(about("row 13: the record again"), record.bytes_and(&record.bytes()), 13),
     ];
-    let whole = accepted("three streams, two vectors".to_string(), record.bytes());
+    let whole = accepted(about("whole"), record.bytes());
     [whole].into_iter().chain(malformed).chain(sizes.into_iter().chain(parts).flat_map(beyond)).collect()
 }
 
@@ -498,10 +610,10 @@ fn replaced_bytes() -> Vec<Case> {
 fn undamaged_by_chance() -> Vec<Case> {
     let mut chance = Chance(2024);
     let mut cases = Vec::new();
-    for turn in 0..96 {
-        let (streams, bits) = (1 + turn % 4, [1, 2, 4, 6][turn / 4 % 4]);
-        let vectors = 1 + turn as i64 / 16 % 3;
-        let numbers = numbers_by_chance(&mut chance, streams as i64, bits, vectors);
+    for turn in 0..6 * SHAPES.len() {
+        let (streams, bits) = SHAPES[turn % SHAPES.len()];
+        let vectors = 1 + (turn / SHAPES.len()) as i64 % 3;
+        let numbers = numbers_by_chance(&mut chance, streams as i64, bits as i64, vectors);
         cases.push(accepted(format!("by chance {}", turn + 1), encode(&numbers)));
     }
     cases
@@ -512,10 +624,9 @@ fn damaged_by_chance() -> Vec<Case> {
     let mut chance = Chance(2025);
     let mut cases = Vec::new();
     for turn in 0..400 {
-        let streams = chance.between(1, 4);
-        let bits = [1, 2, 4, 6][chance.between(0, 3) as usize];
+        let (streams, bits) = chance.one_of(&SHAPES);
         let vectors = chance.between(1, 3);
-        let mut bytes = encode(&numbers_by_chance(&mut chance, streams, bits, vectors));
+        let mut bytes = encode(&numbers_by_chance(&mut chance, streams as i64, bits as i64, vectors));
         let at = chance.between(0, bytes.len() as i64 - 1) as usize;
         bytes[at] ^= chance.between(1, 255) as u8;
         let about = format!("damaged by chance {}: byte {}", turn + 1, at + 1);
@@ -543,15 +654,27 @@ mod tests {
 
     #[test]
     fn each_row_is_reached_by_damage_too() {
-        let damaged = damaged_by_chance().into_iter().chain(replaced_bytes());
+        let damaged = damaged_by_chance().into_iter().chain(replaced_bytes()).chain(pairs_of_sizes());
         let verdicts: Vec<_> = damaged.map(|case| read(&case.bytes).err()).collect();
-        let rows = (2..=13).filter(|&row| verdicts.contains(&Some(row)));
-        assert_eq!(rows.collect::<Vec<_>>(), (2..=13).collect::<Vec<_>>());
+        for row in (2..=13).chain([15]) {
+            assert!(verdicts.contains(&Some(row)), "{row}");
+        }
         assert!(verdicts.contains(&None));
     }
 
     #[test]
     fn the_largest_record_has_8207_bytes() {
+        let longest = |&(streams, bits): &(usize, usize)| longest(streams as i64, bits as i64).bytes().len();
+        assert_eq!(SHAPES.iter().map(longest).max(), Some(8_207));
         assert_eq!(largest().bytes().len(), 8_207);
+    }
+
+    /// M, in its range, and Q are refused alone where no pair has them.
+    #[test]
+    fn the_pairs_are_all_that_are_accepted() {
+        for (streams, bits) in (1..=4).flat_map(|streams| (0..=10).map(move |bits| (streams, bits))) {
+            let is_accepted = intent_of(streams, bits) == Intent::Accepted;
+            assert_eq!(SHAPES.contains(&(streams as usize, bits as usize)), is_accepted, "M = {streams}, Q = {bits}");
+        }
     }
 }

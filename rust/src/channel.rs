@@ -140,28 +140,34 @@ fn any_complex(chance: &mut Chance, size: i64) -> Complex {
 #[cfg(test)]
 mod tests {
     use super::*;
+    use crate::block::SHAPES;
     use crate::record::read;
 
     const PLAN: Plan = Plan { streams: 4, bits: 6, vectors: 16, clip: 8.0, share: 3_000, noise: 0.5, prior: 2.0 };
+    const WIDE_PLAN: Plan = Plan { streams: 3, bits: 8, ..PLAN };
 
     /// Benchmarks name their records by plan and seed, so these bytes may not change.
     #[test]
     fn a_plan_and_a_seed_make_the_same_record_in_every_run() {
-        let record = PLAN.block(&mut Chance(1)).record();
-        let sum = record.iter().fold(0_u64, |sum, &byte| (sum * 257 + u64::from(byte)) % 4_294_967_291);
-        assert_eq!((record.len(), sum), (1_758, 1_105_233_274));
+        for (plan, expected) in [(PLAN, (1_758, 1_105_233_274)), (WIDE_PLAN, (1_530, 4_070_809_391))] {
+            let record = plan.block(&mut Chance(1)).record();
+            let sum = record.iter().fold(0_u64, |sum, &byte| (sum * 257 + u64::from(byte)) % 4_294_967_291);
+            assert_eq!((record.len(), sum), expected, "{plan:?}");
+        }
     }
 
     #[test]
     fn blocks_and_records_go_both_ways() {
         let mut chance = Chance(2);
         for sizes in [Sizes::TIES, Sizes::PRIORS, Sizes::FULL] {
-            for streams in 1..=4 {
-                let block = any_block(&mut chance, streams, 4, 3, 9, sizes);
+            for (streams, bits) in SHAPES {
+                let block = any_block(&mut chance, streams, bits, 3, 9, sizes);
                 assert_eq!(read(&block.record()).map(|numbers| Block::of(&numbers)), Ok(block));
             }
         }
-        let block = PLAN.block(&mut chance);
-        assert_eq!(read(&block.record()).map(|numbers| Block::of(&numbers)), Ok(block));
+        for plan in [PLAN, WIDE_PLAN] {
+            let block = plan.block(&mut chance);
+            assert_eq!(read(&block.record()).map(|numbers| Block::of(&numbers)), Ok(block));
+        }
     }
 }

@@ -1,5 +1,5 @@
-//! A second source for what is checked by running: written from document 01 alone, in plain Rust, and sharing no line with the
-//! detector. Two detectors of its own: `plain`, to be believed, and `fast`, to be beaten.
+//! A second source for what is checked by running: written from the documents alone, 01 and the first point of 02, in plain Rust, and
+//! sharing no line with the detector. Two detectors of its own: `plain`, to be believed, and `fast`, to be beaten.
 
 pub mod block;
 pub mod cases;

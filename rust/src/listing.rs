@@ -70,14 +70,14 @@ fn plural(count: usize) -> &'static str {
     }
 }
 
-/// Document 01's table in words.
+/// Document 01's table in words, and document 02's refusals.
 pub fn reason(refusal: Refusal) -> &'static str {
     match refusal {
         1 => "the first four bytes are missing or are not 43 42 52 31",
         2 => "the record ends before the last group of a number",
         3 => "a number has four groups and no last one, or ends in a group of 0 that it does not need",
         4 => "the number of streams M is not 1 to 4",
-        5 => "the bits of a symbol Q are not 1, 2, 4 or 6",
+        5 => "the bits of a symbol Q are not 1, 2, 4, 6 or 8",
         6 => "the number of vectors N is not 1 to 64",
         7 => "the clip C is above 16777215",
         8 => "the share D is not M to 17043520",
@@ -87,7 +87,8 @@ pub fn reason(refusal: Refusal) -> &'static str {
         12 => "a prior is not -1048575 to 1048575",
         13 => "bytes follow the last prior",
         14 => "the reply buffer is shorter than 7 + N x (9 + 4 x M x Q) bytes",
-        _ => panic!("document 01 has no refusal {refusal}"),
+        15 => "the bits of a symbol Q are 8, which at most three streams may have, and M is 4",
+        _ => panic!("the documents have no refusal {refusal}"),
     }
 }
 

@@ -1,5 +1,5 @@
-//! The plain detector: document 01 word for word, for checking others by. What the walk asks of the leaves walked so far is worked
-//! out from their list at every test, and nothing is kept.
+//! The plain detector: document 01 word for word, and 02's 256 points, for checking others by. What the walk asks of the leaves walked
+//! so far is worked out from their list at every test, and nothing is kept.
 //!
 //! Streams, rows and bits count from 0 here: stream 0 is the paper's stream 1, and bit 0 the label's first and highest.
 
@@ -72,13 +72,34 @@ fn answer(block: &Block, vector: &Vector, allowance: i64) -> Answer {
 
 // Streams and labels.
 
+/// The axis of four bits, document 02's Point 1: the reflected Gray order, from 0000 at -15 to 1000 at 15.
+const FOUR_BITS: [(usize, i64); 16] = [
+    (0b0000, -15),
+    (0b0001, -13),
+    (0b0011, -11),
+    (0b0010, -9),
+    (0b0110, -7),
+    (0b0111, -5),
+    (0b0101, -3),
+    (0b0100, -1),
+    (0b1100, 1),
+    (0b1101, 3),
+    (0b1111, 5),
+    (0b1110, 7),
+    (0b1010, 9),
+    (0b1011, 11),
+    (0b1001, 13),
+    (0b1000, 15),
+];
+
 /// The amplitude of one axis' bits.
 fn amplitude(axis_bits: usize, label: usize) -> i64 {
     let by_rising_amplitude: &[(usize, i64)] = match axis_bits {
         0 => &[(0, 0)],
         1 => &[(0b0, -1), (0b1, 1)],
         2 => &[(0b00, -3), (0b01, -1), (0b11, 1), (0b10, 3)],
-        _ => &[(0b000, -7), (0b001, -5), (0b011, -3), (0b010, -1), (0b110, 1), (0b111, 3), (0b101, 5), (0b100, 7)],
+        3 => &[(0b000, -7), (0b001, -5), (0b011, -3), (0b010, -1), (0b110, 1), (0b111, 3), (0b101, 5), (0b100, 7)],
+        _ => &FOUR_BITS,
     };
     let (_, amplitude) = by_rising_amplitude.iter().find(|row| row.0 == label).expect("every label has an amplitude");
     *amplitude
@@ -100,13 +121,19 @@ fn mask(block: &Block, bit: usize) -> usize {
 
 /// Row i's increment, where the streams from i on have these symbols, stream i's first.
 pub fn increment(block: &Block, vector: &Vector, row: usize, symbols: &[usize]) -> i64 {
-    let terms = vector.matrix[row][row..].iter().zip(symbols).map(|(&entry, &symbol)| entry * point(block.bits, symbol));
+    let points = symbols.iter().map(|&symbol| point(block.bits, symbol));
+    distance(vector, row, points) + prior_cost(block, vector, row, symbols[0])
+}
+
+/// |y_i minus the sum over j from i to M of R_ij s_j| squared, where the streams from i on have these points, stream i's first.
+pub fn distance(vector: &Vector, row: usize, points: impl Iterator<Item = Complex>) -> i64 {
+    let terms = vector.matrix[row][row..].iter().zip(points).map(|(&entry, point)| entry * point);
     let sum = terms.fold(Complex::ZERO, |sum, term| sum + term);
-    (vector.received[row] - sum).magnitude_squared() + prior_cost(block, vector, row, symbols[0])
+    (vector.received[row] - sum).magnitude_squared()
 }
 
 /// The priors' magnitudes where a stream's bits go against their signs.
-fn prior_cost(block: &Block, vector: &Vector, stream: usize, symbol: usize) -> i64 {
+pub fn prior_cost(block: &Block, vector: &Vector, stream: usize, symbol: usize) -> i64 {
     let priors = &vector.priors[stream * block.bits..(stream + 1) * block.bits];
     let cost = |(place, &prior): (usize, &i64)| {
         let is_one = symbol >> (block.bits - 1 - place) & 1 == 1;

@@ -1,23 +1,34 @@
-//! Block records by document 01, "The record" and "Where a record is turned back": a reader, and an encoder that makes records
-//! for tests, wrong ones too.
+//! Block records by document 01, "The record" and "Where a record is turned back", and by document 02's Point 1, which adds Q = 8:
+//! a reader, and an encoder that makes records for tests, wrong ones too.
 
 /// The four bytes that open a record.
 pub const OPENING: [u8; 4] = [0x43, 0x42, 0x52, 0x31];
 
+/// What Q may be.
+pub const WIDTHS: [i64; 5] = [1, 2, 4, 6, 8];
+
 /// A record's whole numbers, unfolded and in record order: M, Q, N, C, D, then each vector's.
 pub type Numbers = Vec<i64>;
 
-/// A row of document 01's table, 1 to 13.
+/// A refusal that a record can meet: 1 to 13 by document 01's table, and 15 by document 02.
 pub type Refusal = u32;
+
+/// A check of Q, made as soon as it is read, which may look at M too.
+pub type WidthCheck = fn(streams: i64, bits: i64) -> Result<(), Refusal>;
 
 /// What becomes of a record: its numbers, or the refusal that decides.
 pub fn read(bytes: &[u8]) -> Result<Numbers, Refusal> {
+    read_by(check_width, bytes)
+}
+
+/// The same with another check of Q in the right one's place, for a test of the tests.
+pub fn read_by(check: WidthCheck, bytes: &[u8]) -> Result<Numbers, Refusal> {
     if !bytes.starts_with(&OPENING) {
         return Err(1);
     }
     let mut rest = &bytes[OPENING.len()..];
     let mut numbers = Numbers::new();
-    read_sizes(&mut rest, &mut numbers)?;
+    read_sizes(check, &mut rest, &mut numbers)?;
     let (streams, bits, vectors) = (numbers[0], numbers[1], numbers[2]);
     for _ in 0..vectors {
         read_matrix(&mut rest, &mut numbers, streams)?;
@@ -31,14 +42,23 @@ pub fn read(bytes: &[u8]) -> Result<Numbers, Refusal> {
     }
 }
 
+/// Q is one of five widths, and four streams do not have the widest: first the one, then the other.
+pub fn check_width(streams: i64, bits: i64) -> Result<(), Refusal> {
+    if !WIDTHS.contains(&bits) {
+        return Err(5);
+    }
+    if bits == 8 && streams == 4 {
+        return Err(15);
+    }
+    Ok(())
+}
+
 /// M, Q, N, C and D.
-fn read_sizes(rest: &mut &[u8], numbers: &mut Numbers) -> Result<(), Refusal> {
+fn read_sizes(check: WidthCheck, rest: &mut &[u8], numbers: &mut Numbers) -> Result<(), Refusal> {
     let streams = within(read_plain(rest)?, 1, 4, 4)?;
     numbers.push(streams);
     let bits = read_plain(rest)?;
-    if ![1, 2, 4, 6].contains(&bits) {
-        return Err(5);
-    }
+    check(streams, bits)?;
     numbers.push(bits);
     numbers.push(within(read_plain(rest)?, 1, 64, 6)?);
     numbers.push(within(read_plain(rest)?, 0, 16_777_215, 7)?);
@@ -221,6 +241,22 @@ mod tests {
         assert!(read(&bench(10, 2)).is_ok());
         assert_eq!(read(&bench(16_777_216, 5)), Err(7));
         assert!(read(&bench(16_777_215, 5)).is_ok());
+    }
+
+    /// Refusal 15 stands at Q: before anything is asked of N, and after 4 and 5.
+    #[test]
+    fn eight_bits_with_four_streams() {
+        let sizes = |bytes: &[u8]| read(&[OPENING.as_slice(), bytes].concat());
+        assert_eq!(sizes(&[4, 8]), Err(15));
+        assert_eq!(sizes(&[4, 8, 0]), Err(15));
+        assert_eq!(sizes(&[4, 8, 0x80, 0x00]), Err(15));
+        assert_eq!(sizes(&[4, 9]), Err(5));
+        assert_eq!(sizes(&[4, 7]), Err(5));
+        assert_eq!(sizes(&[5, 8]), Err(4));
+        assert_eq!(sizes(&[4, 0x88]), Err(2));
+        assert_eq!(sizes(&[4, 0x88, 0x00]), Err(3));
+        assert_eq!(sizes(&[3, 8]), Err(2));
+        assert_eq!(sizes(&[3, 8, 0]), Err(6));
     }
 
     #[test]

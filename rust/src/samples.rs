@@ -2,11 +2,19 @@
 
 use crate::chance::Chance;
 use crate::channel::Plan;
-use crate::record::{encode, Numbers};
+use crate::record::{encode, Numbers, Refusal};
 
 /// The names of the samples, and their bytes.
-pub fn all() -> [(&'static str, Vec<u8>); 5] {
-    [("example", example()), ("stopped", stopped()), ("priors", priors()), ("full", full()), ("refused", refused())]
+pub fn all() -> [(&'static str, Vec<u8>); 7] {
+    [
+        ("example", example()),
+        ("stopped", stopped()),
+        ("priors", priors()),
+        ("full", full()),
+        ("wide", wide()),
+        ("refused", refused()),
+        ("refused-wide", refused_wide()),
+    ]
 }
 
 /// Document 01's listing record, byte by byte.
@@ -34,6 +42,18 @@ fn full() -> Vec<u8> {
     plan.block(&mut Chance(23)).record()
 }
 
+/// Three streams of 256 points with priors, and an allowance that the last vectors use up.
+fn wide() -> Vec<u8> {
+    let plan = Plan { streams: 3, bits: 8, vectors: 6, clip: 8.0, share: 60, noise: 0.9, prior: 0.5 };
+    plan.block(&mut Chance(24)).record()
+}
+
+/// Four streams of 256 points, one more than may have as many.
+fn refused_wide() -> Vec<u8> {
+    let plan = Plan { streams: 4, bits: 8, vectors: 1, clip: 8.0, share: 60, noise: 0.9, prior: 0.0 };
+    plan.block(&mut Chance(25)).record()
+}
+
 /// The example, but the last prior is above its range.
 fn refused() -> Vec<u8> {
     encode(&with(24, 1_048_576))
@@ -47,8 +67,8 @@ fn with(at: usize, number: i64) -> Numbers {
     numbers
 }
 
-/// A record for each refusal from 1 to 13, in their order: the example with one thing wrong.
-pub fn refusals() -> [Vec<u8>; 13] {
+/// A record for each refusal that a record can meet, by number: the example with one thing wrong, for 15 with M and Q exchanged.
+pub fn refusals() -> [(Refusal, Vec<u8>); 14] {
     let example = example();
     let with_byte = |at: usize, byte: u8| {
         let mut record = example.clone();
@@ -56,19 +76,20 @@ pub fn refusals() -> [Vec<u8>; 13] {
         record
     };
     [
-        with_byte(3, 0x30),
-        example[..20].to_vec(),
-        [&example[..7], &[0x8A, 0x00], &example[8..]].concat(),
-        with_byte(4, 5),
-        with_byte(5, 3),
-        with_byte(6, 65),
-        encode(&with(3, 16_777_216)),
-        with_byte(8, 1),
-        with_byte(9, 0),
-        encode(&with(6, 2_048)),
-        encode(&with(9, -131_072)),
-        encode(&with(13, -1_048_576)),
-        [&example[..], &[0x00]].concat(),
+        (1, with_byte(3, 0x30)),
+        (2, example[..20].to_vec()),
+        (3, [&example[..7], &[0x8A, 0x00], &example[8..]].concat()),
+        (4, with_byte(4, 5)),
+        (5, with_byte(5, 3)),
+        (6, with_byte(6, 65)),
+        (7, encode(&with(3, 16_777_216))),
+        (8, with_byte(8, 1)),
+        (9, with_byte(9, 0)),
+        (10, encode(&with(6, 2_048))),
+        (11, encode(&with(9, -131_072))),
+        (12, encode(&with(13, -1_048_576))),
+        (13, [&example[..], &[0x00]].concat()),
+        (15, [&example[..4], &[4, 8], &example[6..]].concat()),
     ]
 }
 
@@ -79,15 +100,20 @@ mod tests {
 
     #[test]
     fn each_refusal_has_its_record() {
-        for (index, record) in refusals().iter().enumerate() {
-            assert_eq!(read(record), Err(index as u32 + 1));
+        for (refusal, record) in refusals() {
+            assert_eq!(read(&record), Err(refusal));
         }
     }
 
     #[test]
-    fn only_the_refused_sample_is_refused() {
+    fn only_two_samples_are_refused() {
         for (name, record) in all() {
-            assert_eq!(read(&record).is_err(), name == "refused", "{name}");
+            let refusal = match name {
+                "refused" => Some(12),
+                "refused-wide" => Some(15),
+                _ => None,
+            };
+            assert_eq!(read(&record).err(), refusal, "{name}");
         }
     }
 }

@@ -1,17 +1,18 @@
 //! Records that one detector is compared with another on, by kind; the same in every run. All sizes M, Q and N, both ends of C and D
 //! and of every other number, ties, priors beyond the clip, channels, long walks, and damage of every sort.
 
-use crate::block::Block;
+use crate::block::{Block, SHAPES};
+use crate::cases::range;
 use crate::chance::Chance;
 use crate::channel::{any_block, Plan, Sizes};
-use crate::record::{encode, places, read, OPENING};
+use crate::record::{encode, places, plain, read, Place, OPENING};
 
-/// How many blocks of each kind of numbers.
-const TURNS: usize = 8_000;
+/// How many blocks of each kind of numbers: 500 of each M and Q.
+const TURNS: usize = 500 * SHAPES.len();
 
 /// M and Q whose whole trees the plain detector can walk.
-const SMALL_TREES: [(usize, usize); 11] =
-    [(1, 1), (2, 1), (3, 1), (4, 1), (1, 2), (2, 2), (3, 2), (1, 4), (1, 6), (4, 2), (2, 4)];
+const SMALL_TREES: [(usize, usize); 12] =
+    [(1, 1), (2, 1), (3, 1), (4, 1), (1, 2), (2, 2), (3, 2), (1, 4), (1, 6), (4, 2), (2, 4), (1, 8)];
 
 /// A record, and the length of the shortest buffer that is accepted if the record is.
 pub struct Trial {
@@ -43,9 +44,9 @@ impl Trial {
     }
 }
 
-/// M and Q by turns: all sixteen.
+/// M and Q by turns.
 fn shape(turn: usize) -> (usize, usize) {
-    (1 + turn % 4, [1, 2, 4, 6][turn / 4 % 4])
+    SHAPES[turn % SHAPES.len()]
 }
 
 /// A share that the plain detector can bear: M, a little more, or up to `most` more.
@@ -62,10 +63,11 @@ fn any(seed: u64, sizes: Sizes) -> impl Iterator<Item = Trial> {
     let mut chance = Chance(seed);
     (0..TURNS).map(move |turn| {
         let (streams, bits) = shape(turn);
-        let vectors = chance.between(1, if turn % 16 == 0 { 8 } else { 3 }) as usize;
-        let most = match streams * bits {
-            0..=8 => 400,
-            9..=12 => 120,
+        let vectors = chance.between(1, if turn % SHAPES.len() == 0 { 8 } else { 3 }) as usize;
+        let most = match (streams * bits, bits) {
+            (0..=8, _) => 400,
+            (9..=12, _) => 120,
+            (_, 8) => 12,
             _ => 40,
         };
         let share = share(&mut chance, streams, most);
@@ -86,6 +88,26 @@ pub fn priors_beyond_the_clip() -> impl Iterator<Item = Trial> {
 /// Numbers up to both ends of every range.
 pub fn full_range() -> impl Iterator<Item = Trial> {
     any(3, Sizes::FULL)
+}
+
+/// Every number of the vectors, and C, at one of its range's ends: the largest metrics.
+pub fn ends() -> impl Iterator<Item = Trial> {
+    let mut chance = Chance(14);
+    (0..10 * SHAPES.len()).map(move |turn| {
+        let (streams, bits) = shape(turn);
+        let (streams, bits) = (streams as i64, bits as i64);
+        let number = |place: &Place| match place {
+            Place::Streams => streams,
+            Place::Bits => bits,
+            Place::Vectors => 2,
+            Place::Share => streams + 8,
+            other => {
+                let (least, greatest) = range(*other, streams);
+                chance.one_of(&[least, greatest])
+            }
+        };
+        Trial::of(encode(&places(streams, bits, 2).iter().map(number).collect::<Vec<_>>()))
+    })
 }
 
 /// Receptions over Rayleigh channels.
@@ -109,10 +131,10 @@ pub fn channels() -> impl Iterator<Item = Trial> {
 /// Every N from 1 to 64, for each M and Q in turn.
 pub fn every_count() -> impl Iterator<Item = Trial> {
     let mut chance = Chance(5);
-    (0..1_024).map(move |turn| {
+    (0..64 * SHAPES.len()).map(move |turn| {
         let (streams, bits) = shape(turn);
-        let share = share(&mut chance, streams, 12);
-        Trial::of_block(&any_block(&mut chance, streams, bits, 1 + turn / 16, share, Sizes::TIES))
+        let share = share(&mut chance, streams, if bits == 8 { 3 } else { 12 });
+        Trial::of_block(&any_block(&mut chance, streams, bits, 1 + turn / SHAPES.len(), share, Sizes::TIES))
     })
 }
 
@@ -120,8 +142,8 @@ pub fn every_count() -> impl Iterator<Item = Trial> {
 pub fn whole_walks() -> impl Iterator<Item = Trial> {
     let mut chance = Chance(6);
     (0..3_000).map(move |turn| {
-        let (streams, bits) = SMALL_TREES[turn % 11];
-        let sizes = [Sizes::TIES, Sizes::PRIORS, Sizes::FULL][turn % 3];
+        let (streams, bits) = SMALL_TREES[turn % SMALL_TREES.len()];
+        let sizes = chance.one_of(&[Sizes::TIES, Sizes::PRIORS, Sizes::FULL]);
         Trial::of_block(&any_block(&mut chance, streams, bits, 2, 17_043_520, sizes))
     })
 }
@@ -129,8 +151,8 @@ pub fn whole_walks() -> impl Iterator<Item = Trial> {
 /// Walks of hundreds of nodes in the larger trees.
 pub fn long_walks() -> impl Iterator<Item = Trial> {
     let mut chance = Chance(7);
-    (0..48).map(move |turn| {
-        let (streams, bits) = [(2, 6), (4, 4), (3, 4), (3, 6), (4, 6), (2, 4)][turn % 6];
+    (0..64).map(move |turn| {
+        let (streams, bits) = [(2, 6), (4, 4), (3, 4), (3, 6), (4, 6), (2, 4), (2, 8), (3, 8)][turn % 8];
         let clip = chance.one_of(&[1.0, 8.0, 60.0]);
         let noise = chance.one_of(&[0.5, 0.9, 2.0]);
         let prior = chance.one_of(&[0.0, 2.0]);
@@ -141,8 +163,8 @@ pub fn long_walks() -> impl Iterator<Item = Trial> {
 /// Walks of thousands of nodes, too long for the plain detector; under every other share some are stopped.
 pub fn longest_walks() -> impl Iterator<Item = Trial> {
     let mut chance = Chance(10);
-    (0..60).map(move |turn| {
-        let (streams, bits) = [(4, 6), (4, 4), (3, 6), (2, 6), (3, 4)][turn % 5];
+    (0..84).map(move |turn| {
+        let (streams, bits) = [(4, 6), (4, 4), (3, 6), (2, 6), (3, 4), (3, 8), (2, 8)][turn % 7];
         let clip = chance.one_of(&[8.0, 60.0, 1_000_000.0]);
         let prior = chance.one_of(&[0.0, 2.0]);
         let share = [20_000, 1_000][turn % 2];
@@ -154,7 +176,7 @@ pub fn longest_walks() -> impl Iterator<Item = Trial> {
 /// Records with a byte changed, cut anywhere, or with bytes added.
 pub fn damaged() -> impl Iterator<Item = Trial> {
     let mut chance = Chance(8);
-    (0..8_000).map(move |turn| {
+    (0..TURNS).map(move |turn| {
         let (streams, bits) = shape(turn);
         let vectors = chance.between(1, 3) as usize;
         let mut record = any_block(&mut chance, streams, bits, vectors, streams as i64 + 2, Sizes::FULL).record();
@@ -171,9 +193,10 @@ pub fn damaged() -> impl Iterator<Item = Trial> {
 /// A record of each M and Q cut at every length, whole at last.
 pub fn cut_at_each_length() -> impl Iterator<Item = Trial> {
     let mut chance = Chance(11);
-    (0..32).flat_map(move |turn| {
+    (0..2 * SHAPES.len()).flat_map(move |turn| {
         let (streams, bits) = shape(turn);
-        let record = any_block(&mut chance, streams, bits, 1 + turn / 16, streams as i64 + 1, Sizes::FULL).record();
+        let vectors = 1 + turn / SHAPES.len();
+        let record = any_block(&mut chance, streams, bits, vectors, streams as i64 + 1, Sizes::FULL).record();
         (0..=record.len()).map(move |length| Trial::of(record[..length].to_vec()))
     })
 }
@@ -181,7 +204,7 @@ pub fn cut_at_each_length() -> impl Iterator<Item = Trial> {
 /// A record of each M and Q with each of its numbers in turn in a longer form: a last group of 0, or five groups.
 pub fn over_long_numbers() -> impl Iterator<Item = Trial> {
     let mut chance = Chance(12);
-    (0..16).flat_map(move |turn| {
+    (0..SHAPES.len()).flat_map(move |turn| {
         let (streams, bits) = shape(turn);
         let numbers = any_block(&mut chance, streams, bits, 2, streams as i64 + 1, Sizes::FULL).numbers();
         let count = numbers.len();
@@ -205,6 +228,27 @@ fn with_over_long(numbers: &[i64], place: usize, least: usize) -> Vec<u8> {
     OPENING.into_iter().chain((0..numbers.len()).flat_map(bytes)).collect()
 }
 
+/// M from 0 to 5 with Q from 0 to 10, and with larger ones that are 8 in their last 7, 8 or 16 bits.
+pub fn widths() -> impl Iterator<Item = Trial> {
+    let mut chance = Chance(13);
+    let sizes = (0..=5).flat_map(|streams| (0..=10).chain([136, 264, 65_544]).map(move |bits| (streams, bits)));
+    sizes.flat_map(move |(streams, bits)| of_sizes(&mut chance, streams, bits)).map(Trial::of)
+}
+
+/// Ten records of this M and Q: five go on as an accepted one does, or would with a smaller Q; the others end right after Q, or with
+/// an N that is cut off, over-long or out of range.
+fn of_sizes(chance: &mut Chance, streams: i64, bits: i64) -> Vec<Vec<u8>> {
+    let sizes = [OPENING.to_vec(), plain(streams), plain(bits)].concat();
+    let ends: [&[u8]; 5] = [&[], &[0x80], &[0x80, 0x00], &[0x00], &[0x41]];
+    let mut all: Vec<Vec<u8>> = ends.iter().map(|end| [sizes.as_slice(), end].concat()).collect();
+    for _ in 0..5 {
+        let vectors = chance.between(1, 2) as usize;
+        let block = any_block(chance, streams as usize, bits.min(10) as usize, vectors, streams + 2, Sizes::FULL);
+        all.push([sizes.as_slice(), &block.record()[6..]].concat());
+    }
+    all
+}
+
 /// The record reader's test records.
 pub fn reader_cases() -> impl Iterator<Item = Trial> {
     crate::cases::all().into_iter().map(|case| Trial::of(case.bytes))
@@ -226,8 +270,9 @@ pub fn readings() -> impl Iterator<Item = Trial> {
 /// All of these but the longest walks.
 pub fn all() -> impl Iterator<Item = Trial> {
     let readings = readings().chain(reader_cases());
-    let accepted = ties().chain(priors_beyond_the_clip()).chain(full_range()).chain(channels()).chain(every_count());
+    let accepted =
+        ties().chain(priors_beyond_the_clip()).chain(full_range()).chain(ends()).chain(channels()).chain(every_count());
     let walks = whole_walks().chain(long_walks());
-    let refused = damaged().chain(cut_at_each_length()).chain(over_long_numbers());
+    let refused = widths().chain(damaged()).chain(cut_at_each_length()).chain(over_long_numbers());
     readings.chain(accepted).chain(walks).chain(refused)
 }

@@ -35,17 +35,22 @@ fn readings() {
 
 #[test]
 fn ties() {
-    assert_eq!(compare(trials::ties()), (8_000, 8_000));
+    assert_eq!(compare(trials::ties()), (9_500, 9_500));
 }
 
 #[test]
 fn priors_beyond_the_clip() {
-    assert_eq!(compare(trials::priors_beyond_the_clip()), (8_000, 8_000));
+    assert_eq!(compare(trials::priors_beyond_the_clip()), (9_500, 9_500));
 }
 
 #[test]
 fn full_range() {
-    assert_eq!(compare(trials::full_range()), (8_000, 8_000));
+    assert_eq!(compare(trials::full_range()), (9_500, 9_500));
+}
+
+#[test]
+fn numbers_at_the_ends_of_their_ranges() {
+    assert_eq!(compare(trials::ends()), (190, 190));
 }
 
 #[test]
@@ -55,7 +60,7 @@ fn channels() {
 
 #[test]
 fn every_count_of_vectors() {
-    assert_eq!(compare(trials::every_count()), (1_024, 1_024));
+    assert_eq!(compare(trials::every_count()), (1_216, 1_216));
 }
 
 #[test]
@@ -64,19 +69,25 @@ fn whole_walks_with_the_largest_share() {
 }
 
 #[test]
-fn long_walks_of_sixteen_and_sixty_four_points() {
-    assert_eq!(compare(trials::long_walks()), (48, 48));
+fn long_walks_of_16_to_256_points() {
+    assert_eq!(compare(trials::long_walks()), (64, 64));
+}
+
+/// Each M from 0 to 5 with fourteen Q, ten records each; accepted are five for each pair that a record may have.
+#[test]
+fn every_pair_of_sizes() {
+    assert_eq!(compare(trials::widths()), (840, 95));
 }
 
 #[test]
 fn damaged_records() {
     let (all, accepted) = compare(trials::damaged());
-    assert!(all > 7_900 && accepted > 1_000, "{all} {accepted}");
+    assert!(all > 9_400 && accepted > 1_000, "{all} {accepted}");
 }
 
 #[test]
 fn records_cut_at_each_length() {
-    assert_eq!(compare(trials::cut_at_each_length()).1, 32);
+    assert_eq!(compare(trials::cut_at_each_length()).1, 38);
 }
 
 #[test]

@@ -1,5 +1,6 @@
-//! IEEE 802.11's encoding tables, typed from the standard (BPSK, QPSK, 16-QAM and 64-QAM encoding tables of the OFDM PHY), against
-//! the constellation of both detectors. A row of an axis: the input bits and I out or Q out.
+//! IEEE 802.11's encoding tables, typed from the standard (BPSK, QPSK, 16-QAM and 64-QAM encoding tables of the OFDM PHY; 256-QAM, which
+//! the newer PHYs add, b0 b1 b2 b3 for I and b4 b5 b6 b7 for Q), against the constellation of both detectors. A row of an axis: the input
+//! bits and I out or Q out, by rising amplitude.
 
 use reference::block::{Block, Complex, Vector};
 use reference::{fast, plain};
@@ -18,6 +19,43 @@ const QAM_64_I: [(&str, i64); 8] =
 const QAM_64_Q: [(&str, i64); 8] =
     [("000", -7), ("001", -5), ("011", -3), ("010", -1), ("110", 1), ("111", 3), ("101", 5), ("100", 7)];
 
+const QAM_256_I: [(&str, i64); 16] = [
+    ("0000", -15),
+    ("0001", -13),
+    ("0011", -11),
+    ("0010", -9),
+    ("0110", -7),
+    ("0111", -5),
+    ("0101", -3),
+    ("0100", -1),
+    ("1100", 1),
+    ("1101", 3),
+    ("1111", 5),
+    ("1110", 7),
+    ("1010", 9),
+    ("1011", 11),
+    ("1001", 13),
+    ("1000", 15),
+];
+const QAM_256_Q: [(&str, i64); 16] = [
+    ("0000", -15),
+    ("0001", -13),
+    ("0011", -11),
+    ("0010", -9),
+    ("0110", -7),
+    ("0111", -5),
+    ("0101", -3),
+    ("0100", -1),
+    ("1100", 1),
+    ("1101", 3),
+    ("1111", 5),
+    ("1110", 7),
+    ("1010", 9),
+    ("1011", 11),
+    ("1001", 13),
+    ("1000", 15),
+];
+
 /// Every row pair: b0 and on for I, the rest for Q, and the point.
 fn points(in_phase: &[(&str, i64)], quadrature: &[(&str, i64)]) -> Vec<(usize, Complex)> {
     let pair = |i: &(&str, i64), q: &(&str, i64)| {
@@ -27,13 +65,44 @@ fn points(in_phase: &[(&str, i64)], quadrature: &[(&str, i64)]) -> Vec<(usize, C
     in_phase.iter().flat_map(|i| quadrature.iter().map(move |q| pair(i, q))).collect()
 }
 
-fn mappings() -> [(usize, Vec<(usize, Complex)>); 4] {
+fn mappings() -> [(usize, Vec<(usize, Complex)>); 5] {
     [
         (1, points(&BPSK_I, &BPSK_Q)),
         (2, points(&QPSK_I, &QPSK_Q)),
         (4, points(&QAM_16_I, &QAM_16_Q)),
         (6, points(&QAM_64_I, &QAM_64_Q)),
+        (8, points(&QAM_256_I, &QAM_256_Q)),
     ]
+}
+
+/// Adjacent amplitudes of an axis are two apart and differ in just one bit; the least is minus the greatest.
+#[test]
+fn neighbours_differ_in_one_bit() {
+    let axes: [&[(&str, i64)]; 9] =
+        [&BPSK_I, &QPSK_I, &QPSK_Q, &QAM_16_I, &QAM_16_Q, &QAM_64_I, &QAM_64_Q, &QAM_256_I, &QAM_256_Q];
+    for axis in axes {
+        for pair in axis.windows(2) {
+            let differing = pair[0].0.chars().zip(pair[1].0.chars()).filter(|bits| bits.0 != bits.1).count();
+            assert_eq!((differing, pair[1].1 - pair[0].1), (1, 2), "{pair:?}");
+        }
+        assert_eq!(axis[0].1, -axis[axis.len() - 1].1);
+    }
+}
+
+/// The same of the detectors' own points, real and imaginary axis apart.
+#[test]
+fn neighbouring_points_differ_in_one_bit() {
+    for (bits, _) in mappings() {
+        let symbol_of = |point: Complex| (0..1 << bits).find(|&symbol| plain::point(bits, symbol) == point);
+        for symbol in 0..1_usize << bits {
+            let point = plain::point(bits, symbol);
+            for step in [Complex { re: 2, im: 0 }, Complex { re: 0, im: 2 }] {
+                if let Some(next) = symbol_of(point + step) {
+                    assert_eq!((symbol ^ next).count_ones(), 1, "Q = {bits}: {symbol} and {next}");
+                }
+            }
+        }
+    }
 }
 
 #[test]
@@ -50,7 +119,8 @@ fn the_points_are_the_standards() {
 #[test]
 fn a_sent_point_is_found_in_every_stream() {
     for (bits, mapping) in mappings() {
-        for streams in 1..=4 {
+        let most = if bits == 8 { 3 } else { 4 };
+        for streams in 1..=most {
             for stream in 0..streams {
                 mapping.iter().for_each(|&(symbol, point)| found(bits, &mapping, streams, stream, (symbol, point)));
             }

@@ -2,11 +2,16 @@
 
 use reference::chance::Chance;
 use reference::channel::{any_block, Plan, Sizes};
-use reference::{block::Block, exhaustive, plain};
+use reference::record::read;
+use reference::{block::Block, exhaustive, plain, trials};
 
 /// M and Q with at most twelve label bits.
-const SMALL: [(usize, usize); 11] = [(1, 1), (2, 1), (3, 1), (4, 1), (1, 2), (2, 2), (3, 2), (4, 2), (1, 4), (2, 4), (1, 6)];
+const SMALL: [(usize, usize); 12] =
+    [(1, 1), (2, 1), (3, 1), (4, 1), (1, 2), (2, 2), (3, 2), (4, 2), (1, 4), (2, 4), (1, 6), (1, 8)];
 const TWELVE_BITS: [(usize, usize); 2] = [(3, 4), (2, 6)];
+
+/// M and Q with sixteen label bits.
+const SIXTEEN_BITS: [(usize, usize); 2] = [(2, 8), (4, 4)];
 
 /// Compares the complete vectors, and gives how many there are; checks every count and mark.
 fn complete(block: &Block) -> usize {
@@ -52,12 +57,46 @@ fn twelve_label_bits() {
     assert!(compare_any(13, 60, &TWELVE_BITS, 400) > 20);
 }
 
+/// With every number at an end of its range: no label's metric is above the sum of the axes' largest squares and all priors, which is
+/// below 2 to the 39.
+#[test]
+fn metrics_have_a_bound() {
+    let mut chance = Chance(17);
+    let ends = trials::ends().map(|trial| Block::of(&read(&trial.record).expect("accepted")));
+    for block in ends.filter(|block| block.streams * block.bits == 24) {
+        let bound = if block.bits == 6 { 292_155_269_592 } else { 313_981_861_776 };
+        assert!(bound < 1 << 39);
+        for label in (0..1_000).map(|_| chance.between(0, (1 << 24) - 1) as usize) {
+            assert!(exhaustive::metric(&block, &block.vectors[0], label) <= bound, "{block:?}, label {label}");
+        }
+    }
+}
+
+#[test]
+fn sixteen_label_bits() {
+    assert!(compare_any(15, 40, &SIXTEEN_BITS, 400) > 10);
+}
+
+#[test]
+fn channels_of_256_points() {
+    let mut chance = Chance(16);
+    let mut sum = 0;
+    for turn in 0..60 {
+        let streams = 1 + turn % 2;
+        let clip = chance.one_of(&[0.0, 1.0, 8.0]);
+        let noise = chance.one_of(&[0.3, 0.9, 2.0]);
+        let prior = chance.one_of(&[0.0, 2.0]);
+        sum += complete(&Plan { streams, bits: 8, vectors: 1, clip, share: 2_000, noise, prior }.block(&mut chance));
+    }
+    assert!(sum > 50);
+}
+
 #[test]
 fn channels() {
     let mut chance = Chance(14);
     let mut sum = 0;
     for turn in 0..300 {
-        let (streams, bits) = if turn % 3 == 0 { TWELVE_BITS[turn / 3 % 2] } else { SMALL[turn % SMALL.len()] };
+        let (streams, bits) = if turn % 5 == 0 { TWELVE_BITS[turn / 5 % 2] } else { SMALL[turn % SMALL.len()] };
         let clip = chance.one_of(&[0.0, 1.0, 8.0]);
         let noise = chance.one_of(&[0.3, 0.9, 2.0]);
         let prior = chance.one_of(&[0.0, 2.0]);

@@ -104,6 +104,32 @@ fn a_clip_at_each_new_best_leaf_would_be_wrong() {
     assert_eq!(soft_value(&leaves, 8, 10, 3), -3);
 }
 
+/// Document 02, Point 1: 15 when Q is 8 and M is 4, after 5 and before anything of N; Q = 8 itself is accepted.
+#[test]
+fn eight_bits_with_four_streams() {
+    let opened = |sizes: &[u8]| [&[0x43, 0x42, 0x52, 0x31], sizes].concat();
+    for after in [&[] as &[u8], &[0x00], &[0x41], &[0x80], &[0x80, 0x00], &[0x01, 0x05, 0x04]] {
+        refuses(&opened(&[&[0x04, 0x08], after].concat()), 64, 15);
+    }
+    for bits in [0, 3, 5, 7, 9, 10, 127] {
+        refuses(&opened(&[0x04, bits]), 64, 5);
+    }
+    refuses(&opened(&[0x05, 0x08]), 64, 4);
+    refuses(&opened(&[0x03, 0x08]), 64, 2);
+}
+
+/// M = 1, Q = 8, R = 1, y = 15 - 13i, C = 2: the point 1000 0001 is met, the label 129. Each axis' nearest other point is 4 away in
+/// squared distance, so that C clips every value, and one node is walked.
+#[test]
+fn a_point_of_256() {
+    let record = encode(&[[1, 8, 1, 2, 2, 1, 15, -13].as_slice(), &[0; 8]].concat());
+    let values = [-2, 2, 2, 2, 2, 2, 2, -2].map(fold);
+    let numbers = [1, 8, 1, 0, 1, 129].into_iter().chain(values);
+    let expected = [vec![0x43, 0x42, 0x53, 0x31], numbers.flat_map(group).collect()].concat();
+    answers(&record, 48, &expected);
+    refuses(&record, 47, 14);
+}
+
 #[test]
 fn every_refusal_leaves_the_buffer_alone() {
     for case in reference::cases::all() {

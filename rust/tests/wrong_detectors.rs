@@ -1,10 +1,11 @@
 //! A test of the tests: a third detector that keeps 000's list (the best label, its metric, an extrinsic metric for each bit) in place
 //! of the leaves, and that can be given one slip at a time: what document 01 says that the pruning papers invite, the frauds of its
-//! Agreement, and the likely slips beside them. With no slip it agrees on every record of `trials`; with any slip some record tells.
+//! Agreement, what the 256 points of document 02 invite, and the likely slips beside them. With no slip it agrees on every record of
+//! `trials`; with any slip some record tells.
 
-use reference::block::{Block, Vector};
+use reference::block::{Block, Complex, Vector};
 use reference::plain::{self, Answer, Leaf};
-use reference::record::read;
+use reference::record::{check_width, read, read_by, Numbers, Refusal};
 use reference::trials;
 
 /// Above every metric and limit.
@@ -52,11 +53,24 @@ enum Slip {
     UnchosenForgotten,
     /// The prior is left out of the limit.
     LimitWithoutPrior,
+    // The 256 points.
+    /// Two entries of the table of 256 points are exchanged.
+    PointsExchanged(usize, usize),
+    /// 15 is checked before 5: four streams with Q = 9 are refused by 15.
+    FourStreamsFirst,
+    /// 15 is checked when the record has been read.
+    FourStreamsLast,
+    /// Four streams of eight bits are no fault at all.
+    FourStreamsAccepted,
+    /// They are refused as before, by 5.
+    FourStreamsByFive,
+    /// Q = 8 is refused as before, whatever M is.
+    EightRefused,
 }
 
 use Slip::*;
 
-const SLIPS: [Slip; 21] = [
+const SLIPS: [Slip; 22] = [
     ClipFromBelow,
     BestLeftOut,
     SiblingsDropped,
@@ -78,10 +92,46 @@ const SLIPS: [Slip; 21] = [
     AtLimitPasses,
     UnchosenForgotten,
     LimitWithoutPrior,
+    // -1 - i and -1 + i.
+    PointsExchanged(0b0100_0100, 0b0100_1100),
 ];
 
+/// Slips of the reader alone.
+const READING_SLIPS: [Slip; 5] = [FourStreamsFirst, FourStreamsLast, FourStreamsAccepted, FourStreamsByFive, EightRefused];
+
+/// The reader, with what a slip makes of its check of Q.
+fn read_with(slip: Slip, record: &[u8]) -> Result<Numbers, Refusal> {
+    match slip {
+        FourStreamsFirst => {
+            read_by(|streams, bits| if streams == 4 { older(bits).map_err(|_| 15) } else { five_alone(streams, bits) }, record)
+        }
+        FourStreamsLast => {
+            let numbers = read_by(five_alone, record)?;
+            check_width(numbers[0], numbers[1]).map(|()| numbers)
+        }
+        FourStreamsAccepted => read_by(five_alone, record),
+        FourStreamsByFive => read_by(|streams, bits| check_width(streams, bits).map_err(|_| 5), record),
+        EightRefused => read_by(|_, bits| older(bits), record),
+        _ => read(record),
+    }
+}
+
+/// The check of Q for one stream, which is never refused by 15.
+fn five_alone(_streams: i64, bits: i64) -> Result<(), Refusal> {
+    check_width(1, bits)
+}
+
+/// The check of Q before the 256 points.
+fn older(bits: i64) -> Result<(), Refusal> {
+    if bits == 8 {
+        Err(5)
+    } else {
+        check_width(1, bits)
+    }
+}
+
 fn detect(slip: Slip, record: &[u8], reply: &mut [u8]) -> i64 {
-    let block = match read(record) {
+    let block = match read_with(slip, record) {
         Ok(_) if slip == RefusesAll => return -13,
         Ok(numbers) => Block::of(&numbers),
         Err(refusal) => return -i64::from(refusal),
@@ -175,7 +225,8 @@ impl Walk<'_> {
         let stream = self.block.streams - 1 - symbols.len();
         let child = |symbol: usize| {
             let chosen = [&[symbol], symbols].concat();
-            (partial + plain::increment(self.block, self.vector, stream, &chosen), chosen)
+            let distance = plain::distance(self.vector, stream, chosen.iter().map(|&symbol| self.point(symbol)));
+            (partial + distance + plain::prior_cost(self.block, self.vector, stream, symbol), chosen)
         };
         let mut all: Vec<_> = (0..1 << self.block.bits).map(child).collect();
         if self.slip == LargerSymbolOnTie {
@@ -183,6 +234,15 @@ impl Walk<'_> {
         }
         all.sort_by_key(|(metric, _)| *metric);
         all
+    }
+
+    fn point(&self, symbol: usize) -> Complex {
+        let entry = match self.slip {
+            PointsExchanged(one, other) if self.block.bits == 8 && symbol == one => other,
+            PointsExchanged(one, other) if self.block.bits == 8 && symbol == other => one,
+            _ => symbol,
+        };
+        plain::point(self.block.bits, entry)
     }
 
     fn passes(&self, child: &[usize], metric: i64) -> bool {
@@ -282,7 +342,7 @@ fn with_no_slip_every_record_agrees() {
 
 #[test]
 fn every_slip_is_seen() {
-    for slip in SLIPS {
+    for slip in SLIPS.into_iter().chain(READING_SLIPS) {
         let seen = trials::all().filter(|trial| trial.suits_plain).any(|trial| !agree(slip, &trial));
         assert!(seen, "no record tells {slip:?}");
     }
@@ -295,6 +355,30 @@ fn every_slip_is_seen_often() {
         let by_chance = || trials::priors_beyond_the_clip().chain(trials::ties());
         let seen = by_chance().filter(|trial| !agree(slip, trial)).take(5).count();
         assert_eq!(seen, 5, "{slip:?}");
+    }
+}
+
+/// The record reader's own test, which is stored and run by the proved reader, sees the reader's slips, and so do other records.
+#[test]
+fn every_slip_of_the_reader_is_seen_often() {
+    for slip in READING_SLIPS {
+        let is_seen = |trial: &trials::Trial| read_with(slip, &trial.record) != read(&trial.record);
+        assert!(trials::reader_cases().filter(is_seen).count() >= 5, "{slip:?}");
+        assert!(trials::widths().filter(is_seen).count() >= 5, "{slip:?}");
+    }
+}
+
+/// Any two of the 256 points whose labels differ in one bit, so all neighbours too, exchanged: the point itself, sent without noise,
+/// tells. tests/mapping.rs sends every point.
+#[test]
+fn every_exchange_of_neighbouring_points_is_seen() {
+    for (symbol, bit) in (0..256).flat_map(|symbol| (0..8).map(move |bit| (symbol, bit))) {
+        let matrix = vec![vec![Complex { re: 1, im: 0 }]];
+        let vector = Vector { matrix, received: vec![plain::point(8, symbol)], priors: vec![0; 8] };
+        let block = Block { streams: 1, bits: 8, clip: 0, share: 100, vectors: vec![vector] };
+        assert_eq!(plain::answers(&block)[0].label, symbol);
+        let other = symbol ^ 1 << bit;
+        assert_eq!(answers(PointsExchanged(symbol, other), &block)[0].label, other);
     }
 }
 

@@ -10,7 +10,7 @@ use lib.ListN.{length, getD, take, drop, length-append}
 use lib.Seq.{drop-drop}
 use lib.IntN.{ℤ, pos}
 use Rattle.model.specs.Soft.{upFrom}
-use Rattle.model.specs.Block.{Every, InRange, widths, mostStreams, mostVectors, mostClip, mostShare}
+use Rattle.model.specs.Block.{Every, InRange, mostStreams, mostVectors, mostClip, mostShare}
 use Rattle.model.proofs.Lists.{every-upFrom}
 use Rattle.block.specs.Table.{allowed}
 use Rattle.block.specs.Reading.{kindsOf, runsOf, vectorSize, countAt, readRecord}
@@ -18,9 +18,9 @@ use Rattle.block.specs.Contents.{vectorNumbers, vectorRows, blockOf, vec
 use Rattle.block.specs.declared.Kind.the-variants.{StreamCount}
 use Rattle.block.specs.declared.Read.the-variants.{Ended}
 use Rattle.block.specs.declared.Part.the-variants.{First, Sizes, Vector}
-use Rattle.block.proofs.Ranges.{between-plain, one-of}
+use Rattle.block.proofs.Ranges.{between-plain, allowed-width}
 use Rattle.block.proofs.Runs.{vector-numbers}
-use Rattle.block.proofs.Parts.{AllAllowed, allowed-length, plain-most}
+use Rattle.block.proofs.Parts.{AllAllowed, allowed-length, plain-most, label-most}
 use Rattle.block.proofs.Places.{vectors-count, drop-two}
 use Rattle.block.proofs.Flat.{accepted-allowed}
 use Rattle.block.proofs.Vectors.{allowed-at, allowed-parts, Placed, vector-placed, vector-ranged}
@@ -76,7 +76,7 @@ module _ (numbers : List ℤ) (a : AllAllowed (recordKinds numbers) numbers) whe
   unfolding recordKinds blockOf kindsOf runsOf
   in-range =
       let m = between-plain 1 mostStreams (getD numbers 0 (pos 0)) (size-at 0 (omega arith)) in
-      let q = one-of widths (getD numbers 1 (pos 0)) (size-at 1 (omega arith)) in
+      let q = allowed-width (getD numbers 0 (pos 0)) (getD numbers 1 (pos 0)) (size-at 1 (omega arith)) in
       let n = between-plain 1 mostVectors (getD numbers 2 (pos 0)) (size-at 2 (omega arith)) in
       let c = between-plain 0 mostClip (getD numbers 3 (pos 0)) (size-at 3 (omega arith)) in
       let d = between-plain (m .value) mostShare (getD numbers 4 (pos 0)) (rw (m .is) at (size-at 4 (omega arith))) in
@@ -84,6 +84,7 @@ module _ (numbers : List ℤ) (a : AllAllowed (recordKinds numbers) numbers) whe
         stream = rw (m .is) (m .low);
         streams = plain-most m;
         width = rw (q .is) (q .member);
+        label = label-most (getD numbers 0 (pos 0)) (getD numbers 1 (pos 0)) (size-at 0 (omega arith)) (size-at 1 (omega arith));
         vector = rw (vectors-count numbers, n .is) (n .low);
         vectors = rw (vectors-count numbers) (plain-most n);
         clip = plain-most c;

@@ -2,25 +2,25 @@
 -- some kinds stops, the numbers before were read and the next one was turned back.
 use Prim.Native.Nat.{ℕ, suc, _≤_, _<_}
 use mathlib.Core.Path.{_≡_, refl, sym, _∙_, ap, subst}
-use mathlib.Core.Bool.{Bool, true, false, cond}
+use mathlib.Core.Bool.{Bool, true, false, cond, not, _&&_}
 use mathlib.Core.Logic.{_↔_}
 use mathlib.Core.List.{List, [], _∷_, append-nil}
 use native.Mathlib.Omega.{arith}
-use borrow.Author.Tests.{ltb-true, ltb-false, lt-ltb, le-ltb}
+use borrow.Author.Tests.{ltb-true, ltb-false, lt-ltb, le-ltb, not-false}
 use lib.Dec.{ltb}
 use lib.ListN.{length, getD, take, drop}
 use lib.Seq.{take-all, split-at}
-use lib.IntN.{ℤ}
+use lib.IntN.{ℤ, pos}
 use Rattle.wire.specs.Reading.{numberAt, Sound}
 use Rattle.wire.specs.declared.Number.{Number}
 use Rattle.wire.specs.declared.Number.the-variants.{Value, Short, Malformed as NoNumber}
 use Rattle.wire.proofs.RoundTrip.{read-sound}
-use Rattle.model.specs.Block.{InRange}
-use Rattle.block.specs.Table.{allowed, refusalOf}
+use Rattle.model.specs.Block.{InRange, widths}
+use Rattle.block.specs.Table.{oneOf, crowded, allowed, refusalOf}
 use Rattle.block.specs.Reading.{wholeOf, byNumber, oneAt, Parse, byOne, numbersAt, andThen}
 use Rattle.block.specs.Reading.{recordAt, opening, startsWith, readRecord, atEnd, readWhole}
 use Rattle.block.specs.Contents.{blockOf}
-use Rattle.block.specs.Conditions.{calledFor, Next, OutOfRange, Whole, TurnedBack}
+use Rattle.block.specs.Conditions.{calledFor, Next, NextIs, OutOfRange, Whole, TurnedBack}
 use Rattle.block.specs.declared.Kind.{Kind}
 use Rattle.block.specs.declared.Kind.the-variants.{StreamCount, SymbolWidth, VectorCount, ClipLevel, NodeShare}
 use Rattle.block.specs.declared.Kind.the-variants.{DiagonalEntry, RightPart, ReceivedPart, BitPrior}
@@ -30,7 +30,8 @@ use Rattle.block.specs.declared.Read.{Read}
 use Rattle.block.specs.declared.Read.the-variants.{Ended, Refused}
 use Rattle.block.specs.declared.Refusal.{Refusal}
 use Rattle.block.specs.declared.Refusal.the-variants.{Opening, Ends, Malformed, Streams, Width, Vectors, Clip, Share, Diagonal}
-use Rattle.block.specs.declared.Refusal.the-variants.{Entry, Received, Prior, Trailing, Buffer}
+use Rattle.block.specs.declared.Refusal.the-variants.{Entry, Received, Prior, Trailing, Buffer, Crowded}
+use Rattle.block.proofs.Ranges.{crowded-is}
 use Rattle.block.proofs.Reading.{one-turned, one-found, numbers-keep}
 use Rattle.block.proofs.Opening.{starts-short}
 use Rattle.block.proofs.Flat.{joined, numbers-append, called-reads, called-only, accepted-opens, accepted-called, accepted-all}
@@ -128,10 +129,23 @@ next-is bytes k at r n e =
     ap (λ (p : Parse). atEnd (length bytes) (p .read))
     (called-only bytes (n .passed .opens) zs (Refused r) (stopped (calledFor zs) bytes 4 zs r s))
 
+-- A Q out of its range is none of the widths, or 8 where M is 4
+by-width : (bytes : List ℕ) (m : ℤ) (o : OutOfRange bytes (SymbolWidth m)) → TurnedBack bytes (refusalOf (SymbolWidth m) (pos (o .n)))
+by-width bytes m o = go (oneOf widths (pos (o .n))) refl (o .holds)
+  where
+    is : {Holds : ℤ → Type 0} → Holds (pos (o .n)) → NextIs bytes (SymbolWidth m) Holds
+    is h = record { at = o .at; next = o .next; n = o .n; after = o .after; value = o .value; holds = h }
+
+    go : (b : Bool) → oneOf widths (pos (o .n)) ≡ b → (b && not (crowded m (pos (o .n)))) ≡ false → TurnedBack bytes (cond b Crowded Width)
+    go true e f =
+        let both = crowded-is m (pos (o .n)) (not-false (crowded m (pos (o .n))) f) in
+        subst (λ (x : ℤ). NextIs bytes (SymbolWidth x) (λ (q : ℤ). q ≡ pos 8)) (both .1) (is (both .0))
+    go false e f = (m, is e)
+
 -- A number out of its range, by its kind
-by-kind : (bytes : List ℕ) (k : Kind) → OutOfRange bytes k → TurnedBack bytes (refusalOf k)
+by-kind : (bytes : List ℕ) (k : Kind) (o : OutOfRange bytes k) → TurnedBack bytes (refusalOf k (wholeOf k (o .n)))
 by-kind bytes StreamCount o = o
-by-kind bytes SymbolWidth o = o
+by-kind bytes (SymbolWidth m) o = by-width bytes m o
 by-kind bytes VectorCount o = o
 by-kind bytes ClipLevel o = o
 by-kind bytes (NodeShare m) o = (m, o)
@@ -146,11 +160,11 @@ unfolding byNumber
 by-number bytes k at r next e = go (numberAt bytes at) refl e
   where
     ranged : (n after : ℕ) → numberAt bytes at ≡ Value n after → (b : Bool) → allowed k (wholeOf k n) ≡ b
-        → cond b (Taken (wholeOf k n) after) (Turned (refusalOf k)) ≡ Turned r → TurnedBack bytes r
+        → cond b (Taken (wholeOf k n) after) (Turned (refusalOf k (wholeOf k n))) ≡ Turned r → TurnedBack bytes r
     ranged n after f true a g = let z : _≡_ {A = ℕ} 0 1 = cc in absurd (omega arith)
     ranged n after f false a g =
-        let same : refusalOf k ≡ r = cc in
-        subst (TurnedBack bytes) same (by-kind bytes k (record { at = at; next = next; n = n; after = after; value = f; outside = a }))
+        let same : refusalOf k (wholeOf k n) ≡ r = cc in
+        subst (TurnedBack bytes) same (by-kind bytes k (record { at = at; next = next; n = n; after = after; value = f; holds = a }))
 
     go : (x : Number) → numberAt bytes at ≡ x → byNumber k x ≡ Turned r → TurnedBack bytes r
     go (Value n after) f g = ranged n after f (allowed k (wholeOf k n)) refl g
@@ -181,10 +195,14 @@ refused-by bytes r e = go (startsWith opening bytes) refl e
     go false f g = let same : Opening ≡ r = cc in subst (TurnedBack bytes) same f
 
 -- A number out of its range is turned back
-range-refused : (bytes : List ℕ) (k : Kind) → OutOfRange bytes k → readWhole bytes .read ≡ Refused (refusalOf k)
-range-refused bytes k o =
-    let turned = one-turned k bytes (o .at) (o .n) (o .after) (o .value) (o .outside) in
-    next-is bytes k (o .at) (refusalOf k) (o .next) turned
+is-refused : (bytes : List ℕ) (k : Kind) {Holds : ℤ → Type 0} (o : NextIs bytes k Holds) → allowed k (wholeOf k (o .n)) ≡ false
+    → readWhole bytes .read ≡ Refused (refusalOf k (wholeOf k (o .n)))
+is-refused bytes k o outside =
+    let turned = one-turned k bytes (o .at) (o .n) (o .after) (o .value) outside in
+    next-is bytes k (o .at) (refusalOf k (wholeOf k (o .n))) (o .next) turned
+
+range-refused : (bytes : List ℕ) (k : Kind) (o : OutOfRange bytes k) → readWhole bytes .read ≡ Refused (refusalOf k (wholeOf k (o .n)))
+range-refused bytes k o = is-refused bytes k o (o .holds)
 
 -- A record that meets a refusal's condition has that refusal
 refused-of : (bytes : List ℕ) (r : Refusal) → TurnedBack bytes r → readWhole bytes .read ≡ Refused r
@@ -193,7 +211,8 @@ refused-of bytes Opening f = rw f
 refused-of bytes Ends t = next-is bytes (t .0) (t .1) Ends (t .2) (ap (byNumber (t .0)) (t .3))
 refused-of bytes Malformed t = next-is bytes (t .0) (t .1) Malformed (t .2) (ap (byNumber (t .0)) (t .3))
 refused-of bytes Streams o = range-refused bytes StreamCount o
-refused-of bytes Width o = range-refused bytes SymbolWidth o
+refused-of bytes Width t =
+    let width = t .1 .holds in rw width at (is-refused bytes (SymbolWidth (t .0)) (t .1) (rw width))
 refused-of bytes Vectors o = range-refused bytes VectorCount o
 refused-of bytes Clip o = range-refused bytes ClipLevel o
 refused-of bytes Share t = range-refused bytes (NodeShare (t .0)) (t .1)
@@ -205,6 +224,9 @@ refused-of bytes Trailing t =
     ap (λ (p : Parse). atEnd (length bytes) (p .read)) (whole-is bytes (t .0) (t .1))
     ∙ ap (λ (b : Bool). cond b (Refused Trailing) (Ended (t .0))) (lt-ltb (t .0) (length bytes) (t .2))
 refused-of bytes Buffer f = absurd f
+refused-of bytes Crowded o =
+    is-refused bytes (SymbolWidth (pos 4)) o (ap (allowed (SymbolWidth (pos 4))) (o .holds))
+    ∙ ap (λ (q : ℤ). Refused (refusalOf (SymbolWidth (pos 4)) q)) (o .holds)
 
 -- Demand 1, of any bytes: a record has a refusal exactly where the table's condition for it holds
 pub turned-back : (bytes : List ℕ) (r : Refusal) → (readWhole bytes .read ≡ Refused r) ↔ TurnedBack bytes r

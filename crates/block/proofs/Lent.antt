@@ -11,8 +11,7 @@ use lib.ListN.{length, drop, length-drop, List·getD-append}
 use lib.Seq.{sets-eq, take-append-le, drop-append-le}
 use lib.IntN.{ℤ, pos, natAbs}
 use Rattle.model.specs.Soft.{upFrom}
-use Rattle.model.specs.Block.{InRange}
-use Rattle.model.proofs.Bounds.{width-small}
+use Rattle.model.specs.Block.{InRange, mostVectors}
 use Rattle.model.proofs.Lists.{map-upFrom}
 use Rattle.block.specs.Reading.{vectorSize, countAt, readRecord, atEnd, readWhole, Got, got, into}
 use Rattle.block.specs.Contents.{rowsOf, vectorNumbers, vectorRows, blockOf}
@@ -79,8 +78,8 @@ ended n (Refused r) at e = let z : _≡_ {A = ℕ} 0 1 = cc in absurd (omega ari
 pub vectors-fit : (list : List ℤ) → InRange (blockOf list) → 5 + countAt 2 list * vectorSize (countAt 0 list) (countAt 1 list) ≤ 3077
 unfolding blockOf
 vectors-fit list h =
-    all-fit (countAt 0 list) (countAt 1 list) (countAt 2 list) (h .streams) (width-small (countAt 1 list) (h .width))
-    (subst (λ (n : ℕ). n ≤ 64) (vectors-count list) (h .vectors))
+    all-fit (countAt 0 list) (countAt 1 list) (countAt 2 list) (h .streams) (h .label)
+    (subst (λ (n : ℕ). n ≤ mostVectors) (vectors-count list) (h .vectors))
 
 -- A list of which a record's reading, to its end, made another
 module _ (bytes : List ℕ) (at : ℕ) (list list′ : List ℤ) (room : length list ≡ 3077)

@@ -1,21 +1,22 @@
 -- Parts one after the other, and what is known of the numbers of a part that was read whole: each is in the range of its kind.
 use Prim.Native.Nat.{ℕ, suc, _+_, _-_, _*_, _≤_, _<_}
 use mathlib.Core.Path.{_≡_, refl, sym, _∙_, ap, subst}
-use mathlib.Core.Bool.{true, false}
+use mathlib.Core.Bool.{true, false, true≢false}
+use mathlib.Core.Logic.{_≢_, ⊎-elim}
 use mathlib.Core.List.{List, [], _∷_, _++_}
 use native.Mathlib.Omega.{arith}
-use native.Mathlib.Nat.{suc-mul, mul-le-mul}
+use native.Mathlib.Nat.{suc-mul, mul-le-mul, eq-or-lt-of-le}
 use lib.ListN.{length, getD, set, take, drop, length-append, List·getD-append}
 use lib.Seq.{sets, sets-eq, length-sets, getD-append-add, length-take-le}
 use lib.IntN.{ℤ, pos, natAbs}
-use Rattle.model.proofs.Bounds.{width-small}
-use Rattle.model.specs.Block.{widths, mostVectors, mostClip, mostShare}
-use Rattle.block.specs.Table.{between, allowed}
-use Rattle.block.proofs.Ranges.{Plain, between-plain, OneOf, one-of}
+use Rattle.model.proofs.Bounds.{of-every, width-small}
+use Rattle.model.specs.Block.{_∈_, widths, mostStreams, mostWidth, mostBits, mostVectors, mostClip, mostShare}
+use Rattle.block.specs.Table.{between, crowded, allowed}
+use Rattle.block.proofs.Ranges.{Plain, between-plain, OneOf, allowed-width, allowed-uncrowded}
 use Rattle.block.proofs.Reading.{one-found}
 use Rattle.block.specs.Reading.{oneAt, Parse, byOne, numbersAt, andThen, kindsOf, runsOf, partAt, vectorSize, vectorsAt, countAt, sizedAt, recordAt, opening, startsWith, readRecord, atEnd, readWhole, Got, got, into}
 use Rattle.block.specs.declared.Kind.{Kind}
-use Rattle.block.specs.declared.Kind.the-variants.{StreamCount}
+use Rattle.block.specs.declared.Kind.the-variants.{StreamCount, SymbolWidth}
 use Rattle.block.specs.declared.One.{One}
 use Rattle.block.specs.declared.One.the-variants.{Taken, Turned}
 use Rattle.block.specs.declared.Read.{Read}
@@ -128,7 +129,7 @@ getD-sets l vs i j d room h =
 -- Q, N, C and D that were read whole
 pub record Sized (m : ℤ) (sizes : List ℤ) : Type 0 where
   pub many : length sizes ≡ 4
-  pub width : OneOf widths (getD sizes 0 (pos 0))
+  pub width : allowed (SymbolWidth m) (getD sizes 0 (pos 0)) ≡ true
   pub vectors : Plain 1 mostVectors (getD sizes 1 (pos 0))
   pub clip : Plain 0 mostClip (getD sizes 2 (pos 0))
   pub share : between m (pos mostShare) (getD sizes 3 (pos 0)) ≡ true
@@ -139,7 +140,7 @@ sized m [] h = absurd h
 sized m (q ∷ []) h = absurd (h .1)
 sized m (q ∷ n ∷ []) h = absurd (h .1 .1)
 sized m (q ∷ n ∷ c ∷ []) h = absurd (h .1 .1 .1)
-sized m (q ∷ n ∷ c ∷ d ∷ []) h = record { many = refl; width = one-of widths q (h .0); vectors = between-plain 1 mostVectors n (h .1 .0); clip = between-plain 0 mostClip c (h .1 .1 .0); share = h .1 .1 .1 .0 }
+sized m (q ∷ n ∷ c ∷ d ∷ []) h = record { many = refl; width = h .0; vectors = between-plain 1 mostVectors n (h .1 .0); clip = between-plain 0 mostClip c (h .1 .1 .0); share = h .1 .1 .1 .0 }
 sized m (q ∷ n ∷ c ∷ d ∷ x ∷ rest) h = absurd (h .1 .1 .1 .1)
 
 -- Q, N, C and D as they were read
@@ -170,17 +171,44 @@ unfolding sizedAt
 sized-refused m bytes at r list list′ e = then-refused (partAt (Sizes m) bytes at) _ 1 list list′ r e
 
 -- All vectors of a record fit the list behind the header
-pub all-fit : (m q n : ℕ) → m ≤ 4 → q ≤ 6 → n ≤ 64 → 5 + n * vectorSize m q ≤ 3077
+pub all-fit : (m q n : ℕ) → m ≤ mostStreams → m * q ≤ mostBits → n ≤ mostVectors → 5 + n * vectorSize m q ≤ 3077
 all-fit m q n h k l =
-    let most : vectorSize m q ≤ 48 = omega (arith, mul-le-mul h h, mul-le-mul h k) in
+    let most : vectorSize m q ≤ 48 = omega (arith, mul-le-mul h h) in
     omega (arith, mul-le-mul l most)
 
 -- A plain number is its magnitude
 pub plain-most : {a b : ℕ} {z : ℤ} → Plain a b z → natAbs z ≤ b
 plain-most p = rw (p .is) (p .high)
 
-pub width-most : {z : ℤ} → OneOf widths z → natAbs z ≤ 6
+pub width-most : {z : ℤ} → OneOf widths z → natAbs z ≤ mostWidth
 width-most p = rw (p .is) (width-small (p .value) (p .member))
+
+-- No symbol has 7 bits, so all widths but 8 are at most 6
+width-other : (q : ℕ) → q ∈ widths → q ≢ 8 → q ≤ 6
+width-other q h n = omega (arith, width-small q h, of-every (λ (w : ℕ). w ≢ 7) widths (omega arith) h)
+
+-- M in its range and a Q that goes with it: a label of at most 24 bits. Three streams have room for any width, and four for all but 8
+pub label-most : (m z : ℤ) → allowed StreamCount m ≡ true → allowed (SymbolWidth m) z ≡ true → natAbs m * natAbs z ≤ mostBits
+label-most m z a b = ⊎-elim four three (eq-or-lt-of-le (streams .high))
+  where
+    streams : Plain 1 mostStreams m
+    streams = between-plain 1 mostStreams m a
+
+    width : OneOf widths z
+    width = allowed-width m z b
+
+    uncrowded : crowded (pos (streams .value)) (pos (width .value)) ≡ false
+    uncrowded = rw (streams .is, width .is) at (allowed-uncrowded m z b)
+
+    three : streams .value < 4 → natAbs m * natAbs z ≤ mostBits
+    three h =
+        let s : streams .value ≤ 3 = omega arith in
+        rw (streams .is, width .is) (mul-le-mul s (width-small (width .value) (width .member)))
+
+    four : streams .value ≡ 4 → natAbs m * natAbs z ≤ mostBits
+    four e =
+        let not-eight : width .value ≢ 8 = λ f. true≢false (rw (e, f) at uncrowded) in
+        rw (streams .is, width .is) (mul-le-mul (streams .high) (width-other (width .value) (width .member) not-eight))
 
 -- M that was read
 pub record Counted (first : List ℤ) : Type 0 where

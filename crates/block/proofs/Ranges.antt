@@ -1,15 +1,16 @@
 -- What a range test that passed says of the number.
 use Prim.Native.Nat.{ℕ, zero, suc, _≤_}
 use mathlib.Core.Path.{_≡_, refl, sym, _∙_, ap, subst}
-use mathlib.Core.Bool.{Bool, true, false, _&&_, _||_, true≢false}
+use mathlib.Core.Bool.{Bool, true, false, not, _&&_, _||_, true≢false}
 use mathlib.Core.List.{List, [], _∷_, List·Memᴰ·head, List·Memᴰ·tail}
 use native.Mathlib.Omega.{arith}
 use lib.Dec.{leb, leb·zero}
-use borrow.Author.Tests.{leb-true}
+use borrow.Author.Tests.{leb-true, not-true}
 use lib.IntN.{ℤ, pos, negsuc, negℤ, natAbs}
 use lib.Signed.{leZ}
 use Rattle.model.specs.Block.{_∈_, widths}
-use Rattle.block.specs.Table.{between, oneOf}
+use Rattle.block.specs.Table.{between, oneOf, crowded, allowed}
+use Rattle.block.specs.declared.Kind.the-variants.{SymbolWidth}
 
 and-left : (a b : Bool) → (a && b) ≡ true → a ≡ true
 and-left true b e = refl
@@ -29,6 +30,10 @@ pub record Plain (a b : ℕ) (z : ℤ) : Type 0 where
 pub between-plain : (a b : ℕ) (z : ℤ) → between (pos a) (pos b) z ≡ true → Plain a b z
 between-plain a b (pos n) e = record { value = n; is = refl; low = leb-true a n (and-left (leb a n) (leb n b) e); high = leb-true n b (and-right (leb a n) (leb n b) e) }
 between-plain a b (negsuc n) e = absurd (true≢false (sym e))
+
+-- One number alone
+pub between-one : (a : ℕ) (z : ℤ) → between (pos a) (pos a) z ≡ true → z ≡ pos a
+between-one a z e = let p = between-plain a a z e in let same : p .value ≡ a = omega arith in p .is ∙ ap pos same
 
 -- A signed one from -b to b
 pub between-signed : (b : ℕ) (z : ℤ) → between (negℤ (pos b)) (pos b) z ≡ true → natAbs z ≤ b
@@ -52,3 +57,18 @@ one-of (w ∷ ws) z e = go (between (pos w) (pos w) z) refl e (one-of ws z)
         let same : p .value ≡ w = omega arith in
         record { value = p .value; is = p .is; member = List·Memᴰ·head same }
     go false f g ih = let p = ih g in record { value = p .value; is = p .is; member = List·Memᴰ·tail (p .member) }
+
+-- A symbol width in its range is one of the widths,
+pub allowed-width : (m z : ℤ) → allowed (SymbolWidth m) z ≡ true → OneOf widths z
+allowed-width m z e = one-of widths z (and-left (oneOf widths z) (not (crowded m z)) e)
+
+-- and not 8 where M is 4
+pub allowed-uncrowded : (m z : ℤ) → allowed (SymbolWidth m) z ≡ true → crowded m z ≡ false
+allowed-uncrowded m z e = not-true (crowded m z) (and-right (oneOf widths z) (not (crowded m z)) e)
+
+-- Q is 8 and M is 4
+pub crowded-is : (m z : ℤ) → crowded m z ≡ true → (z ≡ pos 8) × (m ≡ pos 4)
+crowded-is m z e =
+    let eight = between (pos 8) (pos 8) z in
+    let four = between (pos 4) (pos 4) m in
+    (between-one 8 z (and-left eight four e), between-one 4 m (and-right eight four e))

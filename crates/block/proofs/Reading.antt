@@ -23,7 +23,7 @@ module _ (k : Kind) (bytes : List ℕ) (at n next : ℕ) (found : numberAt bytes
   unfolding byNumber
   one-taken e = rw (found, e)
 
-  pub one-turned : allowed k (wholeOf k n) ≡ false → oneAt k bytes at ≡ Turned (refusalOf k)
+  pub one-turned : allowed k (wholeOf k n) ≡ false → oneAt k bytes at ≡ Turned (refusalOf k (wholeOf k n))
   unfolding byNumber
   one-turned e = rw (found, e)
 
@@ -40,7 +40,7 @@ unfolding byNumber
 one-found k bytes at z next e = go (numberAt bytes at) refl e
   where
     by-range : (n place : ℕ) → numberAt bytes at ≡ Value n place → (b : Bool) → allowed k (wholeOf k n) ≡ b
-        → cond b (Taken (wholeOf k n) place) (Turned (refusalOf k)) ≡ Taken z next → Found k bytes at z next
+        → cond b (Taken (wholeOf k n) place) (Turned (refusalOf k (wholeOf k n))) ≡ Taken z next → Found k bytes at z next
     by-range n place f true a g =
         let same : place ≡ next = cc in record { n = n; value = f ∙ ap (Value n) same; is = cc; ranged = a }
     by-range n place f false a g = let h : _≡_ {A = ℕ} 0 1 = cc in absurd (omega arith)

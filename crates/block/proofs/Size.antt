@@ -1,5 +1,5 @@
--- How long an accepted record can be. A number of each kind has at most so many groups; their sum over a record's kinds rises with M, Q and
--- N, so it is computed once, at the largest that document 01 has.
+-- How long an accepted record can be. A number of each kind has at most so many groups; their sum over a record's kinds rises with M, the
+-- label's bits and N, so it is computed once, at the largest of each.
 use Prim.Native.Nat.{ℕ, zero, suc, _+_, _*_, _^_, _≤_, _<_}
 use mathlib.Core.Path.{_≡_}
 use mathlib.Core.Bool.{true}
@@ -12,8 +12,7 @@ use Rattle.wire.specs.Writing.{bytesOf}
 use Rattle.wire.specs.Folding.{unfolded}
 use Rattle.wire.proofs.Writing.{bytesOf-short, bytesOf-most}
 use Rattle.wire.proofs.RoundTrip.{unfolded-below, read-ends}
-use Rattle.model.specs.Block.{widths, mostStreams, mostVectors, mostEntry, mostReceived, mostPrior}
-use Rattle.model.proofs.Bounds.{width-small}
+use Rattle.model.specs.Block.{mostStreams, mostBits, mostVectors, mostEntry, mostReceived, mostPrior}
 use Rattle.block.specs.Table.{between, allowed}
 use Rattle.block.specs.Reading.{wholeOf, oneAt, numbersAt, run, kindsOf, matrixRuns, runsOf, countAt, readRecord}
 use Rattle.block.specs.Contents.{blockOf, vectorKinds, recordKinds}
@@ -25,7 +24,7 @@ use Rattle.block.specs.declared.One.the-variants.{Taken}
 use Rattle.block.specs.declared.Read.the-variants.{Ended}
 use Rattle.block.specs.declared.Run.{Run}
 use Rattle.block.specs.declared.Part.the-variants.{Vector}
-use Rattle.block.proofs.Ranges.{between-plain, between-signed, one-of}
+use Rattle.block.proofs.Ranges.{between-plain, between-signed, allowed-width}
 use Rattle.block.proofs.Reading.{one-found, numbers-keep}
 use Rattle.block.proofs.Parts.{plain-most, width-most}
 use Rattle.block.proofs.Places.{vectors-count}
@@ -35,7 +34,7 @@ use Rattle.block.proofs.Accepted.{accepted-in-range}
 -- The most bytes that a number of a kind has
 abbrev pub mostBytes : Kind → ℕ
 mostBytes StreamCount = 1
-mostBytes SymbolWidth = 1
+mostBytes (SymbolWidth m) = 1
 mostBytes VectorCount = 1
 mostBytes ClipLevel = 4
 mostBytes (NodeShare m) = 4
@@ -55,7 +54,7 @@ module _ (g b n : ℕ) (some : 1 ≤ g) where
 -- A number in range has no more bytes than its kind
 kind-bytes : (k : Kind) (n : ℕ) → allowed k (wholeOf k n) ≡ true → length (bytesOf n) ≤ mostBytes k
 kind-bytes StreamCount n e = plain-bytes 1 mostStreams n (omega arith) 1 (omega arith) e
-kind-bytes SymbolWidth n e = let most = width-most (one-of widths (pos n) e) in bytesOf-short 1 n (omega arith) (omega arith)
+kind-bytes (SymbolWidth m) n e = let most = width-most (allowed-width m (pos n) e) in bytesOf-short 1 n (omega arith) (omega arith)
 kind-bytes VectorCount n e = plain-bytes 1 mostVectors n (omega arith) 1 (omega arith) e
 kind-bytes ClipLevel n e = bytesOf-most n
 kind-bytes (NodeShare m) n e = bytesOf-most n
@@ -129,10 +128,9 @@ unfolding blockOf
 accepted-size bytes at e =
     let numbers = readRecord bytes .numbers in
     let ranged = accepted-in-range bytes at e in
-    let streams : countAt 0 numbers ≤ 4 = ranged .streams in
-    let width : countAt 1 numbers ≤ 6 = width-small (countAt 1 numbers) (ranged .width) in
-    let vectors : countAt 2 numbers ≤ 64 = omega (arith, ranged .vectors, vectors-count numbers) in
-    let most : vectorBytes (countAt 0 numbers) (countAt 1 numbers) ≤ 128 =
-    omega (arith, mul-le-mul streams streams, mul-le-mul streams width) in
+    let streams : countAt 0 numbers ≤ mostStreams = ranged .streams in
+    let label : countAt 0 numbers * countAt 1 numbers ≤ mostBits = ranged .label in
+    let vectors : countAt 2 numbers ≤ mostVectors = omega (arith, ranged .vectors, vectors-count numbers) in
+    let most : vectorBytes (countAt 0 numbers) (countAt 1 numbers) ≤ 128 = omega (arith, mul-le-mul streams streams) in
     let size = numbers-size (recordKinds numbers) bytes 4 at (accepted-ends bytes at e) in
     omega (arith, most-record numbers, mul-le-mul vectors most)

@@ -1,4 +1,4 @@
--- Demand 1, from document 01, "Where a record is turned back": the table's conditions, row by row.
+-- Demand 1, from document 01, "Where a record is turned back", and Point 1 of document 02: the table's conditions, row by row.
 use Prim.Native.Nat.{ℕ, _<_}
 use mathlib.Core.Path.{_≡_}
 use mathlib.Core.Bool.{true, false, cond}
@@ -6,15 +6,16 @@ use mathlib.Core.List.{List, [], _++_}
 use lib.Dec.{ltb}
 use lib.ListN.{length, getD, take}
 use lib.IntN.{ℤ, pos}
+use Rattle.model.specs.Block.{widths}
 use Rattle.wire.specs.Reading.{numberAt}
 use Rattle.wire.specs.declared.Number.the-variants.{Value, Short, Malformed as NoNumber}
-use Rattle.block.specs.Table.{allowed}
+use Rattle.block.specs.Table.{oneOf, allowed}
 use Rattle.block.specs.Reading.{wholeOf, numbersAt, kindsOf, runsOf, countAt, opening, startsWith}
 use Rattle.block.specs.Contents.{vectorKinds}
 use Rattle.block.specs.declared.Kind.{Kind}
 use Rattle.block.specs.declared.Kind.the-variants.{StreamCount, SymbolWidth, VectorCount, ClipLevel, NodeShare, DiagonalEntry, RightPart, ReceivedPart, BitPrior}
 use Rattle.block.specs.declared.Refusal.{Refusal}
-use Rattle.block.specs.declared.Refusal.the-variants.{Opening, Ends, Malformed, Streams, Width, Vectors, Clip, Share, Diagonal, Entry, Received, Prior, Trailing, Buffer}
+use Rattle.block.specs.declared.Refusal.the-variants.{Opening, Ends, Malformed, Streams, Width, Vectors, Clip, Share, Diagonal, Entry, Received, Prior, Trailing, Buffer, Crowded}
 use Rattle.block.specs.declared.Read.the-variants.{Ended}
 use Rattle.block.specs.declared.Part.the-variants.{First, Sizes}
 
@@ -39,14 +40,18 @@ pub record Next (bytes : List ℕ) (k : Kind) (at : ℕ) : Type 0 where
   pub more : length numbers < length (calledFor numbers)
   pub kind : getD (calledFor numbers) (length numbers) StreamCount ≡ k
 
--- and it is out of its range
-pub record OutOfRange (bytes : List ℕ) (k : Kind) : Type 0 where
+-- and it is read as a whole number that meets a condition
+pub record NextIs (bytes : List ℕ) (k : Kind) (Holds : ℤ → Type 0) : Type 0 where
   pub at : ℕ
   pub next : Next bytes k at
   pub n : ℕ
   pub after : ℕ
   pub value : numberAt bytes at ≡ Value n after
-  pub outside : allowed k (wholeOf k n) ≡ false
+  pub holds : Holds (wholeOf k n)
+
+-- as that of being out of its range
+abbrev pub OutOfRange : List ℕ → Kind → Type 0
+OutOfRange bytes k = NextIs bytes k (λ (z : ℤ). allowed k z ≡ false)
 
 -- or all numbers are passed
 pub record Whole (bytes : List ℕ) (at : ℕ) : Type 0 where
@@ -64,8 +69,8 @@ TurnedBack bytes Ends = (k : Kind) × (at : ℕ) × Next bytes k at × (numberAt
 TurnedBack bytes Malformed = (k : Kind) × (at : ℕ) × Next bytes k at × (numberAt bytes at ≡ NoNumber)
 -- "not 1 to 4"
 TurnedBack bytes Streams = OutOfRange bytes StreamCount
--- "not 1, 2, 4, 6"
-TurnedBack bytes Width = OutOfRange bytes SymbolWidth
+-- "not 1, 2, 4, 6", and by document 02 not 8, whatever M is
+TurnedBack bytes Width = (m : ℤ) × NextIs bytes (SymbolWidth m) (λ (q : ℤ). oneOf widths q ≡ false)
 -- "not 1 to 64"
 TurnedBack bytes Vectors = OutOfRange bytes VectorCount
 -- "above range"
@@ -81,3 +86,5 @@ TurnedBack bytes Prior = OutOfRange bytes BitPrior
 TurnedBack bytes Trailing = (at : ℕ) × Whole bytes at × (at < length bytes)
 -- the reply buffer is no matter of the record's
 TurnedBack bytes Buffer = ⊥
+-- "when Q is 8 and M is 4", document 02's 15
+TurnedBack bytes Crowded = NextIs bytes (SymbolWidth (pos 4)) (λ (q : ℤ). q ≡ pos 8)

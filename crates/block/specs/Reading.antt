@@ -7,7 +7,7 @@ use lib.Dec.{ltb, eqb}
 use lib.ListN.{length, getD, replicate}
 use lib.Seq.{sets}
 use lib.IntN.{ℤ, pos, natAbs}
-use Rattle.model.specs.Block.{mostStreams, mostWidth}
+use Rattle.model.specs.Block.{mostStreams, mostWidth, mostBits}
 use Rattle.wire.specs.Reading.{numberAt}
 use Rattle.wire.specs.Folding.{unfolded}
 use Rattle.wire.specs.declared.Number.{Number}
@@ -31,7 +31,7 @@ wholeOf k n = cond (isFolded k) (unfolded n) (pos n)
 
 -- and ranged
 unfoldable pub byNumber : Kind → Number → One
-byNumber k (Value n next) = cond (allowed k (wholeOf k n)) (Taken (wholeOf k n) next) (Turned (refusalOf k))
+byNumber k (Value n next) = cond (allowed k (wholeOf k n)) (Taken (wholeOf k n) next) (Turned (refusalOf k (wholeOf k n)))
 byNumber k Short = Turned Ends
 byNumber k Malformed = Turned NoNumber
 
@@ -79,18 +79,18 @@ unfoldable pub matrixRuns : ℕ → List Run
 matrixRuns zero = []
 matrixRuns (suc later) = run DiagonalEntry 1 ∷ run RightPart (2 * later) ∷ matrixRuns later
 
--- A part of a record: M; Q, N, C and D, whose range begins at M; "then for each vector: R .. y, row 1 first, as folded real, imaginary ..
--- M × Q folded priors"
+-- A part of a record: M; Q, N, C and D, of which Q and D are ranged by M; "then for each vector: R .. y, row 1 first, as folded real,
+-- imaginary .. M × Q folded priors"
 unfoldable pub runsOf : Part → List Run
 runsOf First = run StreamCount 1 ∷ []
-runsOf (Sizes m) = run SymbolWidth 1 ∷ run VectorCount 1 ∷ run ClipLevel 1 ∷ run (NodeShare m) 1 ∷ []
+runsOf (Sizes m) = run (SymbolWidth m) 1 ∷ run VectorCount 1 ∷ run ClipLevel 1 ∷ run (NodeShare m) 1 ∷ []
 runsOf (Vector m q) = matrixRuns m ++ run ReceivedPart (2 * m) ∷ run BitPrior (m * q) ∷ []
 
--- A vector's M and Q are within their ranges
+-- A vector's M and Q, and the bits of its label, are within their ranges
 abbrev pub Small : Part → Type 0
 Small First = Unit {0}
 Small (Sizes m) = Unit {0}
-Small (Vector m q) = (m ≤ mostStreams) × (q ≤ mostWidth)
+Small (Vector m q) = (m ≤ mostStreams) × (q ≤ mostWidth) × (m * q ≤ mostBits)
 
 abbrev pub partAt : Part → List ℕ → ℕ → Parse
 partAt p bytes at = numbersAt (kindsOf (runsOf p)) bytes at

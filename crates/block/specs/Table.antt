@@ -1,6 +1,7 @@
--- Document 01, "Where a record is turned back": the kinds of number in a record with their ranges, and the refusals with their numbers.
+-- Document 01, "Where a record is turned back", and Point 1 of document 02: the kinds of number in a record with their ranges, and the
+-- refusals with their numbers.
 use Prim.Native.Nat.{ℕ}
-use mathlib.Core.Bool.{Bool, true, false, _&&_, _||_}
+use mathlib.Core.Bool.{Bool, true, false, cond, not, _&&_, _||_}
 use mathlib.Core.List.{List, [], _∷_}
 use lib.Dec.{eqb}
 use lib.IntN.{ℤ, pos, negsuc, negℤ}
@@ -9,7 +10,7 @@ use Rattle.model.specs.Block.{mostStreams, mostVectors, mostClip, mostShare, mo
 use Rattle.block.specs.declared.Kind.{Kind}
 use Rattle.block.specs.declared.Kind.the-variants.{StreamCount, SymbolWidth, VectorCount, ClipLevel, NodeShare, DiagonalEntry, RightPart, ReceivedPart, BitPrior}
 use Rattle.block.specs.declared.Refusal.{Refusal}
-use Rattle.block.specs.declared.Refusal.the-variants.{Opening, Ends, Malformed, Streams, Width, Vectors, Clip, Share, Diagonal, Entry, Received, Prior, Trailing, Buffer}
+use Rattle.block.specs.declared.Refusal.the-variants.{Opening, Ends, Malformed, Streams, Width, Vectors, Clip, Share, Diagonal, Entry, Received, Prior, Trailing, Buffer, Crowded}
 
 -- The column "Number"
 abbrev pub refusalNumber : Refusal → ℕ
@@ -27,18 +28,7 @@ refusalNumber Received = 11
 refusalNumber Prior = 12
 refusalNumber Trailing = 13
 refusalNumber Buffer = 14
-
--- The refusal of a number out of its range
-abbrev pub refusalOf : Kind → Refusal
-refusalOf StreamCount = Streams
-refusalOf SymbolWidth = Width
-refusalOf VectorCount = Vectors
-refusalOf ClipLevel = Clip
-refusalOf (NodeShare m) = Share
-refusalOf DiagonalEntry = Diagonal
-refusalOf RightPart = Entry
-refusalOf ReceivedPart = Received
-refusalOf BitPrior = Prior
+refusalNumber Crowded = 15
 
 -- From one number to another
 abbrev pub between : ℤ → ℤ → ℤ → Bool
@@ -49,10 +39,14 @@ abbrev pub oneOf : List ℕ → ℤ → Bool
 oneOf [] z = false
 oneOf (w ∷ ws) z = between (pos w) (pos w) z || oneOf ws z
 
--- The ranges of "The record"; the share's begins at M
+-- "15 when Q is 8 and M is 4"
+abbrev pub crowded : ℤ → ℤ → Bool
+crowded m z = between (pos 8) (pos 8) z && between (pos 4) (pos 4) m
+
+-- The ranges of "The record"; the symbol width's depends on M, the share's begins at M
 abbrev pub allowed : Kind → ℤ → Bool
 allowed StreamCount z = between (pos 1) (pos mostStreams) z
-allowed SymbolWidth z = oneOf widths z
+allowed (SymbolWidth m) z = oneOf widths z && not (crowded m z)
 allowed VectorCount z = between (pos 1) (pos mostVectors) z
 allowed ClipLevel z = between (pos 0) (pos mostClip) z
 allowed (NodeShare m) z = between m (pos mostShare) z
@@ -61,10 +55,22 @@ allowed RightPart z = between (negℤ (pos mostEntry)) (pos mostEntry) z
 allowed ReceivedPart z = between (negℤ (pos mostReceived)) (pos mostReceived) z
 allowed BitPrior z = between (negℤ (pos mostPrior)) (pos mostPrior) z
 
+-- The refusal of a number out of its range; of a Q, 15 is "checked after 5"
+abbrev pub refusalOf : Kind → ℤ → Refusal
+refusalOf StreamCount z = Streams
+refusalOf (SymbolWidth m) z = cond (oneOf widths z) Crowded Width
+refusalOf VectorCount z = Vectors
+refusalOf ClipLevel z = Clip
+refusalOf (NodeShare m) z = Share
+refusalOf DiagonalEntry z = Diagonal
+refusalOf RightPart z = Entry
+refusalOf ReceivedPart z = Received
+refusalOf BitPrior z = Prior
+
 -- The header and the diagonal are plain, all other numbers folded
 abbrev pub isFolded : Kind → Bool
 isFolded StreamCount = false
-isFolded SymbolWidth = false
+isFolded (SymbolWidth m) = false
 isFolded VectorCount = false
 isFolded ClipLevel = false
 isFolded (NodeShare m) = false

@@ -1,18 +1,18 @@
-// The block record: every list of bytes is read into its whole numbers, or refused by document 01's table.
+// The block record: every list of bytes is read into its whole numbers, or refused by document 01's table with document 02's 15.
 use wire::Number;
 ghost use mathlib.Core.Path.{_≡_};
 ghost use mathlib.Core.Bool.{Bool, true};
 ghost use Prim.Native.Nat.{ℕ, _+_, _*_, _<_, _≤_, _^_};
 ghost use lib.IntN.{ℤ, pos, natAbs};
 ghost use lib.ListN.{length, getD, replicate};
-ghost use Rattle.block.specs.Table.{refusalNumber, refusalOf, between, oneOf, allowed, isFolded};
+ghost use Rattle.block.specs.Table.{refusalNumber, refusalOf, between, oneOf, crowded, allowed, isFolded};
 ghost use Rattle.model.specs.Block.{widths};
 ghost use Rattle.block.specs.Reading.{wholeOf, oneAt, noRun, kindsOf, Small, vectorSize, vectorsAt, sizedAt, numbersAt, run, runsOf, partAt, readRecord, readWhole, Got, got, into, startsWith, opening};
 
 // How many whole numbers a record has at most: 5 and 48 for each of 64 vectors.
 pub const MOST: usize = 3077;
 
-// Why a record is turned back; the definition refusalNumber has document 01's number for each.
+// Why a record is turned back; the definition refusalNumber has the documents' number for each.
 pub enum Refusal {
     Opening,
     Ends,
@@ -28,12 +28,14 @@ pub enum Refusal {
     Prior,
     Trailing,
     Buffer,
+    // four streams of 256 points
+    Crowded,
 }
 
-// The kinds of number in a record, each with a range of its own; the share's begins at M.
+// The kinds of number in a record, each with a range of its own; the symbol width's depends on M, the share's begins at M.
 enum Kind {
     StreamCount,
-    SymbolWidth,
+    SymbolWidth(i32),
     VectorCount,
     ClipLevel,
     NodeShare(i32),
@@ -88,7 +90,24 @@ fn is_width(z: i32) -> bool
     if between(z, 4, 4) {
         return true;
     }
-    between(z, 6, 6)
+    if between(z, 6, 6) {
+        return true;
+    }
+    between(z, 8, 8)
+}
+
+// Are four streams of 256 points asked for?
+fn crowded(m: i32, z: i32) -> bool
+    ensures { λ r. ⌜ r ≡ crowded m z ⌝ }
+{
+    between(z, 8, 8) && between(m, 4, 4)
+}
+
+// Is Q one of the widths, and one that goes with M?
+fn is_sized(m: i32, z: i32) -> bool
+    ensures { λ r. ⌜ r ≡ allowed (Kind.SymbolWidth m) z ⌝ }
+{
+    is_width(z) && !crowded(m, z)
 }
 
 // Is a number in the range of its kind?
@@ -97,7 +116,7 @@ fn allowed(kind: Kind, z: i32) -> bool
 {
     match kind {
         Kind::StreamCount => between(z, 1, 4),
-        Kind::SymbolWidth => is_width(z),
+        Kind::SymbolWidth(m) => is_sized(m, z),
         Kind::VectorCount => between(z, 1, 64),
         Kind::ClipLevel => between(z, 0, 16777215),
         Kind::NodeShare(m) => between(z, m, 17043520),
@@ -116,7 +135,7 @@ fn is_folded(kind: Kind) -> bool
         Kind::ReceivedPart => true,
         Kind::BitPrior => true,
         Kind::StreamCount => false,
-        Kind::SymbolWidth => false,
+        Kind::SymbolWidth(_) => false,
         Kind::VectorCount => false,
         Kind::ClipLevel => false,
         Kind::NodeShare(_) => false,
@@ -124,12 +143,19 @@ fn is_folded(kind: Kind) -> bool
     }
 }
 
-fn refusal_of(kind: Kind) -> Refusal
-    ensures { λ r. ⌜ r ≡ refusalOf kind ⌝ }
+// The refusal of a number that is out of the range of its kind. A Q is checked for its width first.
+fn refusal_of(kind: Kind, z: i32) -> Refusal
+    ensures { λ r. ⌜ r ≡ refusalOf kind z ⌝ }
 {
     match kind {
         Kind::StreamCount => Refusal::Streams,
-        Kind::SymbolWidth => Refusal::Width,
+        Kind::SymbolWidth(_) => {
+            if is_width(z) {
+                Refusal::Crowded
+            } else {
+                Refusal::Width
+            }
+        }
         Kind::VectorCount => Refusal::Vectors,
         Kind::ClipLevel => Refusal::Clip,
         Kind::NodeShare(_) => Refusal::Share,
@@ -159,6 +185,7 @@ pub fn refusal_number(refusal: Refusal) -> u32
         Refusal::Prior => 12,
         Refusal::Trailing => 13,
         Refusal::Buffer => 14,
+        Refusal::Crowded => 15,
     }
 }
 
@@ -184,7 +211,7 @@ fn read_one(bytes: &[u8], at: usize, kind: Kind) -> One
             if allowed(kind, z) {
                 return One::Taken(z, next);
             }
-            One::Turned(refusal_of(kind))
+            One::Turned(refusal_of(kind, z))
         }
         Number::Short => One::Turned(Refusal::Ends),
         Number::Malformed => One::Turned(Refusal::Malformed),
@@ -227,7 +254,7 @@ fn size_run(m: i32, i: usize) -> Run
 {
     match i {
         0 => Run {
-            kind: Kind::SymbolWidth,
+            kind: Kind::SymbolWidth(m),
             count: 1,
         },
         1 => Run {
@@ -247,7 +274,7 @@ fn size_run(m: i32, i: usize) -> Run
 
 // The i-th run of a vector: two for each row of R, then y, then the priors.
 fn vector_run(m: usize, q: usize, i: usize) -> Run
-    requires { ⌜ (m ≤ 4) × (q ≤ 6) × (i < 2 * m + 2) ⌝ }
+    requires { ⌜ Small (Part.Vector m q) × (i < 2 * m + 2) ⌝ }
     ensures { λ r. ⌜ r ≡ getD (runsOf (Part.Vector m q)) i noRun ⌝ }
 {
     if i < 2 * m {

@@ -1,1 +1,1 @@
-pub mod Axes
+pub mod Tables

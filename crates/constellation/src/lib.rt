@@ -1,26 +1,31 @@
-// The constellation: axis amplitudes from constant tables, and a symbol's point by shift and mask of its label.
+// The constellation: the points of all symbol labels, from constant tables into lent memory, once for a record.
+mod table;
+
 ghost use mathlib.Core.Path.{_≡_};
 ghost use Prim.Native.Nat.{_+_, _*_, _-_, _/_, _%_, _<_, _≤_, _^_};
-ghost use Rattle.model.specs.Constellation.{amplitude, bitsOf, point};
-ghost use Rattle.constellation.specs.Axis.{complexOf};
+ghost use lib.ListN.{length};
+ghost use Rattle.model.specs.Constellation.{amplitude, bitsOf};
+ghost use Rattle.model.specs.Block.{mostWidth, widths, _∈_};
+ghost use Rattle.constellation.specs.Points.{places, axisTable, Filled};
+
+// How many numbers the points of the widest symbols are: 256 real parts and 256 imaginary ones.
+pub const PLACES: usize = 512;
 
 // The amplitudes of axes of 0, 1, 2 and 3 bits by rising label, those of w bits from place 2^w on: 0; -1, 1; -3, -1, 3, 1; -7, -5, -1, -3, 7,
-// 5, 1, 3. A place is four bits and holds the amplitude and 8 more: a constant array would be copied at every use. An axis of no bits has the
-// amplitude 0: the imaginary one with Q = 1.
-const AXES: u64 = 13393519687396333448;
+// 5, 1, 3. An axis of no bits has the amplitude 0: the imaginary one with Q = 1.
+const AXES: [i8; 16] = [0, 0, -1, 1, -3, -1, 3, 1, -7, -5, -1, -3, 7, 5, 1, 3];
 
-// The amplitude of an axis label.
-pub fn amplitude(bits: usize, label: usize) -> i64
-    requires { ⌜ (bits ≤ 3) × (label < 2 ^ bits) ⌝ }
+// The amplitude of an axis label of up to 3 bits.
+fn amplitude(axes: &[i8; 16], bits: usize, label: usize) -> i8
+    requires { ⌜ (now axes ≡ axisTable) × (bits ≤ 3) × (label < 2 ^ bits) ⌝ }
     ensures { λ r. ⌜ r ≡ amplitude (bitsOf bits label) ⌝ }
 {
-    let place = 4 * ((1 << bits) + label);
-    ((AXES >> place) & 15) as i64 - 8
+    axes[(1 << bits) + label]
 }
 
 // The upper bits of a symbol's label, which give the real amplitude.
 fn real_label(q: usize, symbol: usize) -> usize
-    requires { ⌜ q ≤ 6 ⌝ }
+    requires { ⌜ q ≤ mostWidth ⌝ }
     ensures { λ r. ⌜ r ≡ symbol / 2 ^ (q / 2) ⌝ }
 {
     symbol >> (q / 2)
@@ -28,24 +33,48 @@ fn real_label(q: usize, symbol: usize) -> usize
 
 // The lower bits, which give the imaginary one.
 fn imaginary_label(q: usize, symbol: usize) -> usize
-    requires { ⌜ q ≤ 6 ⌝ }
+    requires { ⌜ q ≤ mostWidth ⌝ }
     ensures { λ r. ⌜ r ≡ symbol % 2 ^ (q / 2) ⌝ }
 {
     symbol & ((1 << (q / 2)) - 1)
 }
 
-// A point of the constellation.
-pub struct Point {
-    pub re: i64,
-    pub im: i64,
+// The points of symbols of up to 6 bits, from the amplitudes of their two axes.
+fn fill_by_axes(q: usize, points: &mut [i8; PLACES])
+    requires { ⌜ (q ≤ 6) × (length (now points) ≡ places) ⌝ }
+    ensures { λ _. ⌜ Filled q (now (points .entry)) (now (points .exit)) ⌝ }
+{
+    let axes = AXES;
+    let n: usize = 1 << q;
+    let mut s = 0;
+    while s < n {
+        points[2 * s] = amplitude(&axes, q - q / 2, real_label(q, s));
+        points[2 * s + 1] = amplitude(&axes, q / 2, imaginary_label(q, s));
+        s += 1;
+    }
 }
 
-// The point of a symbol of q bits.
-pub fn point_of(q: usize, symbol: usize) -> Point
-    requires { ⌜ (q ≤ 6) × (symbol < 2 ^ q) ⌝ }
-    ensures { λ r. ⌜ complexOf (r .re) (r .im) ≡ point (bitsOf q symbol) ⌝ }
+// The 256 points of symbols of 8 bits, from their table.
+fn copy_points(points: &mut [i8; PLACES])
+    requires { ⌜ length (now points) ≡ places ⌝ }
+    ensures { λ _. ⌜ Filled mostWidth (now (points .entry)) (now (points .exit)) ⌝ }
 {
-    let re = amplitude(q - q / 2, real_label(q, symbol));
-    let im = amplitude(q / 2, imaginary_label(q, symbol));
-    Point { re, im }
+    let table = table::POINTS;
+    let mut s = 0;
+    while s < 256 {
+        points[2 * s] = table[2 * s];
+        points[2 * s + 1] = table[2 * s + 1];
+        s += 1;
+    }
+}
+
+// The points of all symbols of q bits by rising label, real and imaginary part; what stands behind them stays.
+pub fn fill(q: usize, points: &mut [i8; PLACES])
+    requires { ⌜ (q ∈ widths) × (length (now points) ≡ places) ⌝ }
+    ensures { λ _. ⌜ Filled q (now (points .entry)) (now (points .exit)) ⌝ }
+{
+    if q == 8 {
+        return copy_points(points);
+    }
+    fill_by_axes(q, points)
 }

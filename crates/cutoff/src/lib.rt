@@ -7,6 +7,9 @@ ghost use Rattle.metric.specs.Parts.{childMetric, realIn, imaginaryIn};
 ghost use Rattle.cutoff.specs.Cut.{CutAt, ShutAsked};
 ghost use Rattle.cutoff.specs.Axes.{LeastAsked, LeastOf, AnyAsked, NoneBelow, OwnAsked, NoneOpen};
 
+// How many labels the widest axis has: the place of the imaginary axis's parts, and of its entries.
+const SPAN: usize = AXES / 2;
+
 // What a child's partial metric is held against: B, the widest limit of the bits that are not chosen yet, that of the chosen bits that are
 // opposite to the best label's, and `cap`, the widest of all bits but the chosen ones.
 pub struct Bounds {
@@ -33,13 +36,16 @@ fn least_among(axes: &[u64; AXES], from: usize, n: usize) -> u64
     least
 }
 
-// The same; an axis of 64-QAM has eight labels, which the compiler is told here.
+// The same; an axis of 64-QAM has eight labels, and one of 256-QAM sixteen, which the compiler is told here.
 fn least_part(axes: &[u64; AXES], from: usize, n: usize) -> u64
     requires { ⌜ LeastAsked (now axes) from n ⌝ }
     ensures { λ r. ⌜ LeastOf (now (axes .entry)) from n r ⌝ }
 {
     if n == 8 {
         return least_among(axes, from, 8);
+    }
+    if n == 16 {
+        return least_among(axes, from, 16);
     }
     least_among(axes, from, n)
 }
@@ -67,7 +73,7 @@ fn any_among(
     false
 }
 
-// The same; the compiler is told of eight labels here too.
+// The same; the compiler is told of eight labels and of sixteen here too.
 fn any_below(
     entries: &[u64],
     axes: &[u64; AXES],
@@ -81,6 +87,9 @@ fn any_below(
 {
     if n == 8 {
         return any_among(entries, axes, from, 8, other, own);
+    }
+    if n == 16 {
+        return any_among(entries, axes, from, 16, other, own);
     }
     any_among(entries, axes, from, n, other, own)
 }
@@ -102,7 +111,7 @@ fn own_opens(
     if any_below(entries, axes, 0, 1 << (q - q / 2), column, own >> (q / 2)) {
         return true;
     }
-    any_below(entries, axes, 8, columns, row, own & (columns - 1))
+    any_below(entries, axes, SPAN, columns, row, own & (columns - 1))
 }
 
 // Would every child be cut? Where this is true all would. `entries` are the limits of the children's own stream, and `own` is the best
@@ -121,7 +130,7 @@ pub fn shuts(
         (childMetric q partial (realIn (now (axes .entry))) (imaginaryIn (now (axes .entry))) s) s) ⌝ }
 {
     let row = least_part(axes, 0, 1 << (q - q / 2));
-    let column = least_part(axes, 8, 1 << (q / 2));
+    let column = least_part(axes, SPAN, 1 << (q / 2));
     let low = partial + (row + column);
     if low <= bounds.best {
         return false;

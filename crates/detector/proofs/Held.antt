@@ -10,7 +10,7 @@ use lib.IntN.{ℤ, pos}
 use lib.ListN.{length, getD, take, drop, length-append, length-drop, List·getD-append, drop-of-length-le}
 use lib.Seq.{drop-cons, take-at}
 use Rattle.model.specs.Metric.{Vector, labelBits}
-use Rattle.model.specs.Block.{vectorOf, Answer, answer, answersFrom, Every, VectorInRange}
+use Rattle.model.specs.Block.{vectorOf, Answer, answer, answersFrom, Every, VectorInRange, mostWidth, mostBits}
 use Rattle.model.proofs.Lists.{in-upFrom}
 use Rattle.model.proofs.Demand.{count-is}
 use Rattle.model.proofs.Bounds.{of-every, width-small, total-small}
@@ -64,14 +64,14 @@ module _ {h : Header} {list : List ℤ} (held : Holds list) (headed : Heads h li
   pub few-streams : h .streams ≤ 4
   few-streams = omega (arith, streams-are headed, held .ranged .streams)
 
-  pub few-bits : h .width ≤ 6
+  pub few-bits : h .width ≤ mostWidth
   few-bits = omega (arith, width-are headed, width-small (blockOf list .width) (held .ranged .width))
 
   pub few-vectors : h .vectors ≤ 64
   few-vectors = omega (arith, vectors-are headed, held .ranged .vectors)
 
-  pub few-soft : h .streams * h .width ≤ 24
-  few-soft = mul-le-mul few-streams few-bits
+  pub few-soft : h .streams * h .width ≤ mostBits
+  few-soft = rw (streams-are headed, width-are headed) (held .ranged .label)
 
   pub total-fits : h .vectors * h .share < 2 ^ 32
   total-fits = omega (arith, total-is headed, total-small (blockOf list) (held .ranged))
@@ -93,7 +93,7 @@ module _ {h : Header} {list : List ℤ} (held : Holds list) (headed : Heads h li
 abbrev vectorIn : List ℤ → ℕ → Vector
 vectorIn list k = vectorOf (blockOf list) (vectorRows list k)
 
-module _ {h : Header} {list : List ℤ} {k bits : ℕ} (s : SearchOneAsked h list k bits) where
+module _ {h : Header} {list : List ℤ} {k : ℕ} {points : List ℤ} {keys bits : ℕ} (s : SearchOneAsked h list k points keys bits) where
   -- It is one of those that the list holds
   pub inside : k < countAt 2 list
   inside = omega (arith, s .inside, s .headed .vectors-is)
@@ -127,7 +127,8 @@ module _ {h : Header} {list : List ℤ} {k bits : ℕ} (s : SearchOneAsked h lis
     step-room = rw (streams-are (s .headed), width-are (s .headed)) (answer-room (s .held .ranged) vector-held (allowanceAt list spent k))
 
 -- What a search of vector k leaves
-module _ {h : Header} {list : List ℤ} {k : ℕ} {before : List ℤ} (s : SearchOneAsked h list k (length before)) (spent : ℕ) {allowed : ℕ}
+module _ {h : Header} {list : List ℤ} {k : ℕ} {points : List ℤ} {keys : ℕ} {before : List ℤ}
+    (s : SearchOneAsked h list k points keys (length before)) (spent : ℕ) {allowed : ℕ}
     (granted : allowed ≡ h .vectors * h .share - spent - (h .vectors - (k + 1)) * h .streams) {stopped : Bool} {count label : ℕ}
     {after : List ℤ} (result : Answered (vectorIn list k) allowed stopped count label before after) where
   found : Answered (vectorIn list k) (allowanceAt list spent k) stopped count label before after

@@ -10,6 +10,8 @@ use lib.ListN.{length}
 use Rattle.model.specs.Block.{answers}
 use Rattle.block.specs.Contents.{blockOf}
 use Rattle.detector.specs.Reply.{replyOpening, answerNumbers, answersNumbers, written, replyOf, replyRoom}
+use Rattle.constellation.specs.Points.{Points}
+use Rattle.search.specs.Limits.{keyPlaces}
 use Rattle.search.specs.Holds.{Holds}
 use Rattle.detector.specs.Steps.{Wrote, Heads, StepAsked, answerAt}
 use Rattle.detector.specs.declared.Header.{Header}
@@ -57,22 +59,23 @@ module _ {h : Header} {list : List ℤ} (held : Holds list) (headed : Heads h li
 
   module _ {buffer now : List ℕ} {from n bits at spent k : ℕ} (a : Answering h list buffer from n now bits at spent k) where
     -- What vector k asks
-    pub answering-asked : k < n → StepAsked h list k at spent bits (length now)
-    answering-asked more =
+    pub answering-asked : {points : List ℤ} {keys : ℕ} → Points (h .width) points → keyPlaces ≤ keys → k < n
+        → StepAsked h list k at spent points keys bits (length now)
+    answering-asked pointed work more =
         let next : suc k ≤ h .vectors = omega (arith, a .all) in
         let each = 9 + 4 * h .streams * h .width in
         record {
-          search = record { held = held; headed = headed; inside = next; array = a .array };
+          search = record { held = held; headed = headed; inside = next; pointed = pointed; work = work; array = a .array };
           left = a .left;
           buffer = omega (arith, a .room, a .same, a .enough, mul-le-mul-right each next, suc-mul k each);
         }
 
     -- After it
-    pub answering-more : k < n → {after : List ℕ} {bits′ at′ spent′ : ℕ} → bits′ ≡ 24
+    pub answering-more : {points : List ℤ} {keys : ℕ} → StepAsked h list k at spent points keys bits (length now) → k < n → {after : List ℕ} {bits′ at′ spent′ : ℕ} → bits′ ≡ 24
         → Wrote now at (written (answerNumbers (answerAt list spent k))) after at′ → spent′ ≡ spent + answerAt list spent k .count
         → Answering h list buffer from n after bits′ at′ spent′ (k + 1)
-    answering-more more array w e =
-        let s = answering-asked more .search in
+    answering-more asked more array w e =
+        let s = asked .search in
         let each = 9 + 4 * h .streams * h .width in
         let more-room : suc k * each ≡ k * each + each = suc-mul k each in
         record {

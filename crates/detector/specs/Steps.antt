@@ -10,6 +10,8 @@ use Rattle.wire.specs.Folding.{folded}
 use Rattle.block.specs.Reading.{countAt}
 use Rattle.block.specs.Contents.{vectorRows, blockOf}
 use Rattle.detector.specs.Reply.{replyRoom}
+use Rattle.constellation.specs.Points.{Points}
+use Rattle.search.specs.Limits.{keyPlaces}
 use Rattle.search.specs.Holds.{Holds}
 use Rattle.detector.specs.declared.Header.{Header}
 
@@ -55,16 +57,18 @@ pub record AllowanceAsked (h : Header) (spent k : ℕ) : Type 0 where
   pub total : h .vectors * h .share < 2 ^ 32
   pub left : spent + (h .vectors - k) * h .streams ≤ h .vectors * h .share
 
--- What searching vector k asks: the lent list, its header, and an array for the soft values
-pub record SearchOneAsked (h : Header) (list : List ℤ) (k bits : ℕ) : Type 0 where
+-- What searching vector k asks: the lent list, its header, the points of its constellation, room for keys, and an array for the soft values
+pub record SearchOneAsked (h : Header) (list : List ℤ) (k : ℕ) (points : List ℤ) (keys bits : ℕ) : Type 0 where
   pub held : Holds list
   pub headed : Heads h list
   pub inside : k < h .vectors
+  pub pointed : Points (h .width) points
+  pub work : keyPlaces ≤ keys
   pub array : bits ≡ 24
 
 -- What answering it asks: besides, M nodes for each vector from k on, and room for an answer
-pub record StepAsked (h : Header) (list : List ℤ) (k at spent bits room : ℕ) : Type 0 where
-  pub search : SearchOneAsked h list k bits
+pub record StepAsked (h : Header) (list : List ℤ) (k at spent : ℕ) (points : List ℤ) (keys bits room : ℕ) : Type 0 where
+  pub search : SearchOneAsked h list k points keys bits
   pub left : spent + (h .vectors - k) * h .streams ≤ h .vectors * h .share
   pub buffer : at + (9 + 4 * h .streams * h .width) ≤ room
 

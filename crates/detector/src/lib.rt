@@ -1,6 +1,7 @@
 // The detector: one block record in, one reply out.
 use block::Read;
 use block::Refusal;
+use constellation::PLACES;
 use search::Found;
 use search::Task;
 ghost use mathlib.Core.Path.{_≡_};
@@ -11,7 +12,7 @@ ghost use lib.ListN.{length, take};
 ghost use Rattle.wire.specs.Writing.{put};
 ghost use Rattle.wire.specs.Folding.{folded};
 ghost use Rattle.block.specs.Table.{refusalNumber};
-ghost use Rattle.model.specs.Block.{vectorOf};
+ghost use Rattle.model.specs.Block.{vectorOf, mostStreams, mostWidth, mostVectors};
 ghost use Rattle.block.specs.Reading.{countAt, vectorSize};
 ghost use Rattle.block.specs.Contents.{vectorRows, blockOf};
 ghost use Rattle.search.specs.Values.{Answered};
@@ -128,15 +129,23 @@ fn allowance(h: Header, spent: u32, k: usize) -> u32
 
 // How many numbers a vector has.
 fn vector_size(m: usize, q: usize) -> usize
-    requires { ⌜ (m ≤ 4) × (q ≤ 6) ⌝ }
+    requires { ⌜ (m ≤ mostStreams) × (q ≤ mostWidth) ⌝ }
     ensures { λ r. ⌜ r ≡ vectorSize m q ⌝ }
 {
     m * m + 2 * m + m * q
 }
 
 // Vector k, from 0, is searched under an allowance.
-fn search_one(numbers: &[i32], h: Header, k: usize, allowed: u32, soft: &mut [i32; 24]) -> Found
-    requires { ⌜ SearchOneAsked h (now numbers) k (length (now soft)) ⌝ }
+fn search_one(
+    numbers: &[i32],
+    h: Header,
+    k: usize,
+    allowed: u32,
+    points: &[i8; PLACES],
+    keys: &mut [u64],
+    soft: &mut [i32; 24],
+) -> Found
+    requires { ⌜ SearchOneAsked h (now numbers) k (now points) (length (now keys)) (length (now soft)) ⌝ }
     ensures { λ r. ⌜ Answered (vectorOf (blockOf (now (numbers .entry))) (vectorRows (now (numbers .entry)) k)) allowed
         (r .stopped) (r .count) (r .label) (now (soft .entry)) (now (soft .exit)) ⌝ }
 {
@@ -149,7 +158,7 @@ fn search_one(numbers: &[i32], h: Header, k: usize, allowed: u32, soft: &mut [i3
         clip: h.clip,
         allowance: allowed,
     };
-    search::search_vector(task, &numbers[from..to], soft)
+    search::search_vector(task, points, &numbers[from..to], keys, soft)
 }
 
 // Vector k, from 0, is searched under what those before it left, and its answer is written.
@@ -158,17 +167,19 @@ fn answer_one(
     h: Header,
     k: usize,
     step: Step,
+    points: &[i8; PLACES],
+    keys: &mut [u64],
     soft: &mut [i32; 24],
     reply: &mut [u8],
 ) -> Step
-    requires { ⌜ StepAsked h (now numbers) k (step .at) (step .spent) (length (now soft)) (length (now reply)) ⌝ }
+    requires { ⌜ StepAsked h (now numbers) k (step .at) (step .spent) (now points) (length (now keys)) (length (now soft)) (length (now reply)) ⌝ }
     ensures { λ r. ⌜ Wrote (now (reply .entry)) (step .at) (written (answerNumbers (answerAt (now (numbers .entry)) (step .spent) k)))
         (now (reply .exit)) (r .at)
         × (r .spent ≡ step .spent + answerAt (now (numbers .entry)) (step .spent) k .count)
         × (length (now (soft .exit)) ≡ 24) ⌝ }
 {
     let allowed = allowance(h, step.spent, k);
-    let found = search_one(numbers, h, k, allowed, soft);
+    let found = search_one(numbers, h, k, allowed, points, keys, soft);
     let walked = found.count;
     let next = write_found(reply, step.at, found.stopped, walked, found.label);
     let at = write_soft(reply, next, soft, h.streams * h.width);
@@ -181,6 +192,9 @@ fn answer_all(numbers: &[i32], h: Header, reply: &mut [u8]) -> usize
     requires { ⌜ ReplyAsked h (now numbers) (length (now reply)) ⌝ }
     ensures { λ r. ⌜ Wrote (now (reply .entry)) 0 (replyOf (blockOf (now (numbers .entry)))) (now (reply .exit)) r ⌝ }
 {
+    let mut points = [0i8; PLACES];
+    constellation::fill(h.width, &mut points);
+    let mut keys = [0u64; search::KEYS];
     let mut soft = [0i32; 24];
     let mut step = Step {
         at: write_head(reply, h.streams, h.width, h.vectors),
@@ -189,7 +203,7 @@ fn answer_all(numbers: &[i32], h: Header, reply: &mut [u8]) -> usize
     let n = h.vectors;
     let mut k = 0;
     while k < n {
-        step = answer_one(numbers, h, k, step, &mut soft, reply);
+        step = answer_one(numbers, h, k, step, &points, &mut keys, &mut soft, reply);
         k += 1;
     }
     step.at
@@ -204,7 +218,7 @@ fn refused(refusal: Refusal) -> i64
 
 // The buffer a reply asks for.
 fn room(m: usize, q: usize, n: usize) -> usize
-    requires { ⌜ (m ≤ 4) × (q ≤ 6) × (n ≤ 64) ⌝ }
+    requires { ⌜ (m ≤ mostStreams) × (q ≤ mostWidth) × (n ≤ mostVectors) ⌝ }
     ensures { λ r. ⌜ r ≡ 7 + n * (9 + 4 * m * q) ⌝ }
 {
     7 + n * (9 + 4 * m * q)

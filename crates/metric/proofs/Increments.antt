@@ -12,8 +12,8 @@ use Rattle.model.specs.Metric.{Row, dot, residual, priorCost, increment}
 use Rattle.model.specs.Soft.{upFrom}
 use Rattle.model.proofs.Lists.{length-upFrom, map-upFrom}
 use Rattle.model.proofs.Numbers.{upFrom-append, length-bitsOf, take-bits, drop-bits, low-bits}
-use Rattle.constellation.specs.Axis.{complexOf}
-use Rattle.constellation.proofs.Axes.{point-halves}
+use Rattle.constellation.specs.Points.{complexOf}
+use Rattle.constellation.proofs.Tables.{point-halves}
 use Rattle.metric.specs.Parts.{part, axisPart}
 use Rattle.metric.specs.Rows.{remainderOf}
 

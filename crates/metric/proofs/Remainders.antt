@@ -13,7 +13,7 @@ use Rattle.model.specs.Soft.{upFrom}
 use Rattle.model.specs.Block.{mostWidth, mostEntry}
 use Rattle.model.proofs.Bounds.{largestAmplitude, point-bound, product-bound}
 use Rattle.model.proofs.Numbers.{length-bitsOf, take-bits, drop-bits, low-bits}
-use Rattle.constellation.specs.Axis.{complexOf}
+use Rattle.constellation.specs.Points.{complexOf}
 use Rattle.block.specs.Contents.{complexAt}
 use Rattle.metric.specs.Parts.{span}
 use Rattle.metric.specs.Rows.{rowStart, rowAt, remainderOf, VectorAsked}

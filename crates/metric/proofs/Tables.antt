@@ -3,21 +3,25 @@ use Prim.Native.Nat.{ℕ, _+_, _-_, _*_, _/_, _^_, _≤_, _<_}
 use mathlib.Core.Path.{_≡_, _∙_, ap, subst}
 use mathlib.Core.List.{List}
 use native.Mathlib.Decide.{decLt}
+use native.Mathlib.Nat.{zero-add, mul-assoc, mul-comm}
 use native.Mathlib.Omega.{arith}
 use lib.ListN.{length, getD}
-use lib.Pow.{pow-mono}
+use lib.Pow.{pow-mono, pow-pos}
 use lib.IntN.{ℤ, pos, natAbs}
 use Rattle.model.specs.Constellation.{bitsOf, amplitude}
 use Rattle.model.specs.Block.{Every, Within, mostStreams, mostWidth, mostPrior}
 use Rattle.model.proofs.Lists.{every-upFrom}
 use Rattle.model.proofs.Gray.{amplitude-below}
 use Rattle.model.proofs.Numbers.{length-bitsOf}
+use Rattle.constellation.specs.Points.{Points}
+use Rattle.constellation.proofs.Tables.{real-axis, imaginary-axis}
 use Rattle.metric.specs.Parts.{axisWidth, span, part}
 use Rattle.metric.specs.Rows.{rowStart, priorStart, VectorAsked}
 use Rattle.metric.specs.Tables.{Axis, tableSize, axisPlace, axisBits, axisPrior, labelProduct, labelCost, entriesIn}
-use Rattle.metric.specs.Tables.{AxisTabled, RowTabled, TabledTo, EntriesAsked}
+use Rattle.metric.specs.Tables.{AxisTabled, RowTabled, TabledTo, AmplitudesAsked, EntriesAsked}
 use Rattle.metric.specs.Tables.Axis.{real, imaginary}
 use Rattle.metric.proofs.Filled.{from-length, from-before, from-at}
+use Rattle.metric.proofs.Grid.{row-room}
 use Rattle.metric.proofs.Rows.{square-few, priors-few, priors-room, prior-within, diagonal-within}
 
 -- The amplitude of an axis label is less than the span
@@ -155,4 +159,25 @@ module _ {m q : ℕ} {numbers : List ℤ} (asked : VectorAsked m q numbers) (lev
     };
     entry = omega (arith, ap natAbs e, diagonal-within asked level inside);
     place = place-room level x (omega (arith, asked .streams));
+  }
+
+-- The amplitudes of both axes stand in the points
+module _ {q : ℕ} {points : List ℤ} (p : Points q points) (few : q ≤ mostWidth) where
+  pub real-amplitudes : (step : ℕ) → step ≡ 2 * 2 ^ (q / 2) → AmplitudesAsked points 0 step (q - q / 2)
+  real-amplitudes step e = record {
+    bits = axis-few q real few;
+    table = p .size;
+    room = λ g h. rw e (omega (arith, row-room q g h, pow-pos (q / 2), pow-mono few, place g));
+    each = λ g h. rw (e, zero-add) (real-axis p g h);
+  }
+    where
+      place : (g : ℕ) → g * (2 * 2 ^ (q / 2)) ≡ 2 * (g * 2 ^ (q / 2))
+      place g = omega (arith, mul-assoc g 2 (2 ^ (q / 2)), mul-comm g 2, mul-assoc 2 g (2 ^ (q / 2)))
+
+  pub imaginary-amplitudes : AmplitudesAsked points 1 2 (q / 2)
+  imaginary-amplitudes = record {
+    bits = axis-few q imaginary few;
+    table = p .size;
+    room = λ g h. omega (arith, h, pow-mono (axis-few q imaginary few));
+    each = λ g h. imaginary-axis p g h;
   }

@@ -8,9 +8,10 @@ use lib.ListN.{length, getD}
 use Rattle.model.specs.Constellation.{Complex, Bits, bitsOf, _⊖_}
 use Rattle.model.specs.Metric.{Row, dot, increment}
 use Rattle.model.specs.Soft.{upFrom}
-use Rattle.model.specs.Block.{Within, mostStreams, mostWidth, mostEntry, mostReceived, mostPrior}
+use Rattle.model.specs.Block.{Within, mostStreams, mostWidth, mostBits, mostEntry, mostReceived, mostPrior}
 use Rattle.block.specs.Reading.{vectorSize}
 use Rattle.block.specs.Contents.{complexAt}
+use Rattle.constellation.specs.Points.{places, pointIn}
 use Rattle.metric.specs.Parts.{span, part, realIn, imaginaryIn, childMetric, AllSmall}
 
 -- Where row i's numbers of R begin, from 0: the rows before it have 2m - 1, 2m - 3, .. numbers
@@ -43,6 +44,7 @@ pub record VectorAsked (m q : ℕ) (numbers : List ℤ) : Type 0 where
   pub streams : m ≤ mostStreams
   pub bit : 0 < q
   pub bits : q ≤ mostWidth
+  pub label : m * q ≤ mostBits
   pub room : vectorSize m q ≤ length numbers
   pub entries : (i : ℕ) → i < m * m → Within mostEntry (getD numbers i (pos 0))
   pub plain : (i : ℕ) → i < m → getD numbers (rowStart m i) (pos 0) ≡ pos (natAbs (getD numbers (rowStart m i) (pos 0)))
@@ -69,9 +71,11 @@ pub record Factors (a b x y : ℤ) : Type 0 where
   pub point-im : natAbs y < span
 
 -- What multiplying the entry of R at a place with a symbol's point asks
-pub record TermAsked (numbers : List ℤ) (place q symbol : ℕ) : Type 0 where
+pub record TermAsked (points numbers : List ℤ) (place symbol : ℕ) : Type 0 where
+  pub table : length points ≡ places
+  pub below : symbol < 2 ^ mostWidth
+  pub point-re : natAbs (pointIn points symbol .re) < span
+  pub point-im : natAbs (pointIn points symbol .im) < span
   pub room : place + 1 < length numbers
-  pub bits : q ≤ mostWidth
-  pub below : symbol < 2 ^ q
   pub real : Within mostEntry (getD numbers place (pos 0))
   pub imaginary : Within mostEntry (getD numbers (place + 1) (pos 0))

@@ -7,6 +7,7 @@ use lib.IntN.{ℤ, pos, natAbs, _-ℤ_, _*ℤ_}
 use lib.ListN.{length, getD}
 use Rattle.model.specs.Constellation.{bitsOf, amplitude}
 use Rattle.model.specs.Block.{Every, Within, mostStreams, mostEntry, mostPrior}
+use Rattle.constellation.specs.Points.{places}
 use Rattle.metric.specs.Parts.{axisWidth, span, part, axisCost, filledFrom}
 use Rattle.metric.specs.Rows.{rowStart, priorStart}
 
@@ -77,6 +78,13 @@ pub record AxisAsked (tables : List ℤ) (at : ℕ) (left : ℤ) (w : ℕ) : Typ
   pub remains : natAbs left < 2 ^ 30
   pub product : (g : ℕ) → g < 2 ^ w → natAbs (getD tables (at + g) (pos 0)) < 2 ^ 30
   pub cost : (g : ℕ) → g < 2 ^ w → getD tables (at + span + g) (pos 0) ≡ pos (natAbs (getD tables (at + span + g) (pos 0)))
+
+-- What multiplying with an axis's amplitudes asks: they stand in the points from a place on, some places apart
+pub record AmplitudesAsked (points : List ℤ) (first step w : ℕ) : Type 0 where
+  pub bits : w ≤ axisWidth
+  pub table : length points ≡ places
+  pub room : (g : ℕ) → g < 2 ^ w → first + g * step < places
+  pub each : (g : ℕ) → g < 2 ^ w → getD points (first + g * step) (pos 0) ≡ amplitude (bitsOf w g)
 
 -- What pricing an axis's labels asks: the priors of its bits stand within the numbers, in their range
 pub record PriorsAsked (numbers : List ℤ) (from w : ℕ) : Type 0 where

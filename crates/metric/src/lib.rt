@@ -1,23 +1,24 @@
 // The partial metrics of a node's children, measured by their two axes: an axis label's part of the squared distance and of the prior
 // cost is made once for a node, in a lent array of both axes, and shared by a row or a column of the constellation; what of it depends on
 // the vector alone is made once for the vector, in a lent table.
+use constellation::PLACES;
 ghost use mathlib.Core.Path.{_≡_};
 ghost use Prim.Native.Nat.{suc, _+_, _*_, _-_, _/_, _%_, _<_, _≤_, _^_};
 ghost use lib.IntN.{pos, natAbs, _+ℤ_, _-ℤ_, _*ℤ_};
 ghost use lib.ListN.{length, getD};
-ghost use Rattle.model.specs.Constellation.{bitsOf, point, _⊗_};
+ghost use Rattle.model.specs.Constellation.{bitsOf, _⊗_};
 ghost use Rattle.model.specs.Metric.{bitCost};
 ghost use Rattle.model.specs.Block.{mostWidth, mostEntry};
-ghost use Rattle.constellation.specs.Axis.{complexOf};
+ghost use Rattle.constellation.specs.Points.{complexOf, places, pointIn, Points};
 ghost use Rattle.block.specs.Contents.{complexAt};
 ghost use Rattle.metric.specs.Parts.{axisWidth, span, part, bitOf, axisCost, realIn, imaginaryIn, childMetric, rowMetric, apart, nearestOf};
 ghost use Rattle.metric.specs.Parts.{floorOf, filled, filledFrom, AllSmall};
 ghost use Rattle.metric.specs.Rows.{rowAt, remainderOf, VectorAsked, MeasuredFrom, Factors, TermAsked};
 ghost use Rattle.metric.specs.Tables.{tableSize, labelProduct, labelCost, entriesIn, tablePart, Tabled};
-ghost use Rattle.metric.specs.Tables.{AxisAsked, PriorsAsked, EntriesAsked};
+ghost use Rattle.metric.specs.Tables.{AxisAsked, AmplitudesAsked, PriorsAsked, EntriesAsked};
 
 // How many labels the widest axis has.
-const SPAN: usize = 8;
+const SPAN: usize = 16;
 
 // The places of a vector's table: for each axis of each row a span of products and one of prior costs.
 pub const TABLE: usize = 16 * SPAN;
@@ -80,15 +81,32 @@ fn axis_product(diagonal: i64, amplitude: i64) -> i32
     (diagonal * amplitude) as i32
 }
 
-// The products of an axis's labels, in the table from a place on.
-fn fill_products(diagonal: i64, w: usize, at: usize, tables: &mut [i32; TABLE])
-    requires { ⌜ (natAbs diagonal ≤ mostEntry) × (w ≤ axisWidth) × (at + span ≤ tableSize) ⌝ }
+// One of the points' parts.
+fn amplitude(points: &[i8; PLACES], i: usize) -> i64
+    requires { ⌜ i < places ⌝ }
+    ensures { λ r. ⌜ r ≡ getD (now (points .entry)) i (pos 0) ⌝ }
+{
+    points[i] as i64
+}
+
+// The products of an axis's labels of w bits, in the table from a place on: the amplitudes stand in the points from `first` on, `step` apart.
+fn fill_products(
+    points: &[i8; PLACES],
+    first: usize,
+    step: usize,
+    diagonal: i64,
+    w: usize,
+    at: usize,
+    tables: &mut [i32; TABLE],
+)
+    requires { ⌜ AmplitudesAsked (now points) first step w × (natAbs diagonal ≤ mostEntry) × (at + span ≤ tableSize) ⌝ }
     ensures { λ _. ⌜ now (tables .exit) ≡ filledFrom at (labelProduct diagonal w) (2 ^ w) (now (tables .entry)) ⌝ }
 {
     let n: usize = 1 << w;
     let mut g = 0;
     while g < n {
-        tables[at + g] = axis_product(diagonal, constellation::amplitude(w, g));
+        let amplitude = amplitude(points, first + g * step);
+        tables[at + g] = axis_product(diagonal, amplitude);
         g += 1;
     }
 }
@@ -106,38 +124,61 @@ fn fill_costs(numbers: &[i32], from: usize, w: usize, at: usize, tables: &mut [i
     }
 }
 
+// Where the amplitudes of an axis stand in the points: the place of the first, how far they are apart, and the bits of their labels.
+struct Amplitudes {
+    first: usize,
+    step: usize,
+    bits: usize,
+}
+
 // An axis's entries of the table: a span of products and one of costs.
 fn fill_entries(
+    points: &[i8; PLACES],
+    axis: Amplitudes,
     numbers: &[i32],
     from: usize,
     diagonal: i64,
-    w: usize,
     at: usize,
     tables: &mut [i32; TABLE],
 )
-    requires { ⌜ EntriesAsked (now numbers) from diagonal w at ⌝ }
-    ensures { λ _. ⌜ now (tables .exit) ≡ entriesIn (now (tables .entry)) at diagonal (part (now (numbers .entry)) from w) w ⌝ }
+    requires { ⌜ AmplitudesAsked (now points) (axis .first) (axis .step) (axis .bits)
+        × EntriesAsked (now numbers) from diagonal (axis .bits) at ⌝ }
+    ensures { λ _. ⌜ now (tables .exit)
+        ≡ entriesIn (now (tables .entry)) at diagonal (part (now (numbers .entry)) from (axis .bits)) (axis .bits) ⌝ }
 {
-    fill_products(diagonal, w, at, tables);
+    let w = axis.bits;
+    fill_products(points, axis.first, axis.step, diagonal, w, at, tables);
     fill_costs(numbers, from, w, at + SPAN, tables);
 }
 
 // What depends on the vector alone: for each axis of each row, the diagonal entry times the amplitude of each axis label, and each label's
 // prior cost.
-pub fn prepare(shape: Shape, numbers: &[i32], tables: &mut [i32; TABLE])
-    requires { ⌜ VectorAsked (shape .streams) (shape .width) (now numbers) × (length (now tables) ≡ tableSize) ⌝ }
+pub fn prepare(shape: Shape, points: &[i8; PLACES], numbers: &[i32], tables: &mut [i32; TABLE])
+    requires { ⌜ VectorAsked (shape .streams) (shape .width) (now numbers) × (length (now tables) ≡ tableSize)
+        × Points (shape .width) (now points) ⌝ }
     ensures { λ _. ⌜ Tabled (shape .streams) (shape .width) (now (numbers .entry)) (now (tables .exit)) ⌝ }
 {
     let m = shape.streams;
     let q = shape.width;
-    let w = q - q / 2;
+    let real = Amplitudes {
+        first: 0,
+        step: 2 * (1 << (q / 2)),
+        bits: q - q / 2,
+    };
+    let imaginary = Amplitudes {
+        first: 1,
+        step: 2,
+        bits: q / 2,
+    };
     let mut row = 0;
     while row < m {
         let diagonal = element(numbers, row * (2 * m - row));
         let priors = m * m + 2 * m + row * q;
         let at = row * (4 * SPAN);
-        fill_entries(numbers, priors, diagonal, w, at, tables);
-        fill_entries(numbers, priors + w, diagonal, q / 2, at + 2 * SPAN, tables);
+        fill_entries(points, real, numbers, priors, diagonal, at, tables);
+        let later = priors + real.bits;
+        let next = at + 2 * SPAN;
+        fill_entries(points, imaginary, numbers, later, diagonal, next, tables);
         row += 1;
     }
 }
@@ -259,17 +300,24 @@ fn product_im(a: i64, b: i64, x: i64, y: i64) -> i64
     a * y + b * x
 }
 
+// A complex number whose parts are whole numbers.
+struct Complex {
+    re: i64,
+    im: i64,
+}
+
 // An entry of R, at its place in the numbers, times the point of a symbol.
-fn term(numbers: &[i32], place: usize, q: usize, symbol: usize) -> constellation::Point
-    requires { ⌜ TermAsked (now numbers) place q symbol ⌝ }
-    ensures { λ r. ⌜ complexOf (r .re) (r .im) ≡ complexAt (now (numbers .entry)) place ⊗ point (bitsOf q symbol) ⌝ }
+fn term(points: &[i8; PLACES], numbers: &[i32], place: usize, symbol: usize) -> Complex
+    requires { ⌜ TermAsked (now points) (now numbers) place symbol ⌝ }
+    ensures { λ r. ⌜ complexOf (r .re) (r .im) ≡ complexAt (now (numbers .entry)) place ⊗ pointIn (now (points .entry)) symbol ⌝ }
 {
-    let p = constellation::point_of(q, symbol);
+    let x = amplitude(points, 2 * symbol);
+    let y = amplitude(points, 2 * symbol + 1);
     let a = element(numbers, place);
     let b = element(numbers, place + 1);
-    let re = product_re(a, b, p.re, p.im);
-    let im = product_im(a, b, p.re, p.im);
-    constellation::Point { re, im }
+    let re = product_re(a, b, x, y);
+    let im = product_im(a, b, x, y);
+    Complex { re, im }
 }
 
 // a less b.
@@ -281,8 +329,15 @@ fn less(a: i64, b: i64) -> i64
 }
 
 // What remains of y in a row after the entries right of the diagonal, times the points of the node's symbols.
-fn remainder(numbers: &[i32], m: usize, q: usize, level: usize, node: u32) -> constellation::Point
-    requires { ⌜ VectorAsked m q (now numbers) × (level < m) ⌝ }
+fn remainder(
+    points: &[i8; PLACES],
+    numbers: &[i32],
+    m: usize,
+    q: usize,
+    level: usize,
+    node: u32,
+) -> Complex
+    requires { ⌜ VectorAsked m q (now numbers) × (level < m) × Points q (now points) ⌝ }
     ensures { λ r. ⌜ (complexOf (r .re) (r .im)
         ≡ remainderOf q (rowAt m q (now (numbers .entry)) level) (bitsOf ((m - suc level) * q) node))
         × (natAbs (r .re) < 2 ^ 30) × (natAbs (r .im) < 2 ^ 30) ⌝ }
@@ -295,12 +350,12 @@ fn remainder(numbers: &[i32], m: usize, q: usize, level: usize, node: u32) -> co
     let mut t = 0;
     while t < later {
         let symbol = symbol_at(node, q, (later - t - 1) * q);
-        let p = term(numbers, start + 2 * t, q, symbol);
+        let p = term(points, numbers, start + 2 * t, symbol);
         re = less(re, p.re);
         im = less(im, p.im);
         t += 1;
     }
-    constellation::Point { re, im }
+    Complex { re, im }
 }
 
 // How far apart two numbers are.
@@ -337,7 +392,7 @@ fn nearest(e: i64, diagonal: u64, w: usize) -> u64
 }
 
 // The squared distance from what remains to the nearest point of the constellation, times the diagonal.
-fn floor(left: constellation::Point, diagonal: u64, q: usize) -> u64
+fn floor(left: Complex, diagonal: u64, q: usize) -> u64
     requires { ⌜ (natAbs (left .re) < 2 ^ 30) × (natAbs (left .im) < 2 ^ 30) × (diagonal ≤ mostEntry) × (q ≤ mostWidth) ⌝ }
     ensures { λ r. ⌜ (r ≡ floorOf q diagonal (complexOf (left .re) (left .im))) × (r < 2 ^ 61) ⌝ }
 {
@@ -351,6 +406,7 @@ fn floor(left: constellation::Point, diagonal: u64, q: usize) -> u64
 pub fn measure(
     shape: Shape,
     node: Node,
+    points: &[i8; PLACES],
     numbers: &[i32],
     tables: &[i32; TABLE],
     bound: u64,
@@ -359,13 +415,13 @@ pub fn measure(
     requires { ⌜ VectorAsked (shape .streams) (shape .width) (now numbers)
         × Tabled (shape .streams) (shape .width) (now numbers) (now tables)
         × (0 < node .level) × (node .level ≤ shape .streams) × (length (now axes) ≡ 2 * span) × AllSmall (now axes)
-        × (node .partial < 2 ^ 61) ⌝ }
+        × (node .partial < 2 ^ 61) × Points (shape .width) (now points) ⌝ }
     ensures { λ r. ⌜ MeasuredFrom (shape .streams) (shape .width) (now (numbers .entry)) (node .level - 1) (node .bits) (node .partial)
         bound (now (axes .exit)) r ⌝ }
 {
     let q = shape.width;
     let level = node.level - 1;
-    let left = remainder(numbers, shape.streams, q, level, node.bits);
+    let left = remainder(points, numbers, shape.streams, q, level, node.bits);
     let diagonal = element(numbers, level * (2 * shape.streams - level));
     if bound <= node.partial + floor(left, diagonal as u64, q) {
         return false;

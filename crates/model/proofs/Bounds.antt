@@ -1,11 +1,12 @@
 -- The sizes of numbers. A point's parts are bounded by the width, an entry times a point by that and the entry's range, and so
--- on to the metric; the bounds rise with the width and the number of rows, so they are computed once, at the largest that document 01 has.
+-- on to the metric; the bounds rise with the width and the number of rows, so they are computed at the two largest pairs of these: four
+-- streams of 6 bits and three of 8 (documents 01 and 02).
 use Prim.Native.Nat.{ℕ, zero, suc, _+_, _-_, _*_, _/_, _^_, _≤_, _<_}
-use mathlib.Core.Path.{_≡_, refl}
+use mathlib.Core.Path.{_≡_, refl, ap}
 use mathlib.Core.Bool.{Bool, true, false}
-use mathlib.Core.Logic.{⊎-elim}
+use mathlib.Core.Logic.{_⊎_, inl, inr, ⊎-elim}
 use mathlib.Core.List.{List, [], _∷_, List·Memᴰ·cases-cons, List·Memᴰ·not-nil}
-use native.Mathlib.Nat.{le-refl, le-trans, le-of-eq, mul-le-mul, add-le-add, suc-mul}
+use native.Mathlib.Nat.{le-refl, eq-or-lt-of-le, mul-le-mul, add-le-add, suc-mul}
 use native.Mathlib.Omega.{arith}
 use lib.Pow.{pow-mono}
 use lib.ListN.{length, take, drop, length-take, length-drop}
@@ -14,7 +15,7 @@ use Rattle.model.specs.Constellation.{Complex, Bits, real, _⊕_, _⊖_,
 use Rattle.model.specs.Metric.{Row, dot, residual, squaredDistance, bitCost, priorCost, increment, metric}
 use Rattle.model.specs.Walk.{treeNodes}
 use Rattle.model.specs.Block.{Block, total, allowance, _∈_, Every, Within, BothWithin, RowInRange, RowsInRange, InRange, Shaped}
-use Rattle.model.specs.Block.{widths, mostShare, mostEntry, mostReceived, mostPrior}
+use Rattle.model.specs.Block.{widths, mostStreams, mostWidth, mostBits, mostShare, mostEntry, mostReceived, mostPrior}
 use Rattle.integers.proofs.Magnitudes.{natAbs-add, natAbs-sub, natAbs-mul-le}
 use Rattle.model.proofs.Gray.{amplitude-below}
 
@@ -150,15 +151,43 @@ module _ {q q′ : ℕ} (h : q ≤ q′) where
   tree-rises (suc m) zero k = absurd (omega arith)
   tree-rises (suc m) (suc m′) k = add-le-add (pow-mono (mul-le-mul h k)) (tree-rises m m′ (omega arith))
 
--- The largest metric of 4 streams with 6 bits each
-pub metric-largest : largestMetric 6 4 ≡ 292155269592
+-- The largest metric of 4 streams with 6 bits each, and of 3 with 8
+pub metric-of-four : largestMetric 6 4 ≡ 292155269592
 unfolding largestMetric largestIncrement largestResidual largestTerm largestAmplitude
-metric-largest = refl
+metric-of-four = refl
 
--- The tree of 4 streams with 6 bits each
-pub tree-largest : treeNodes 6 4 ≡ 17043520
+pub metric-of-three : largestMetric 8 3 ≡ 313981861776
+unfolding largestMetric largestIncrement largestResidual largestTerm largestAmplitude
+metric-of-three = refl
+
+-- The tree of 4 streams with 6 bits each, and of 3 with 8
+pub tree-of-four : treeNodes 6 4 ≡ 17043520
 unfolding treeNodes
-tree-largest = refl
+tree-of-four = refl
+
+pub tree-of-three : treeNodes 8 3 ≡ 16843008
+unfolding treeNodes
+tree-of-three = refl
+
+-- A width and a number of streams with a label of at most 24 bits are within one of the two largest pairs
+pub largest-pair : (q m : ℕ) → q ≤ mostWidth → m ≤ mostStreams → m * q ≤ mostBits → ((q ≤ 6) × (m ≤ 4)) ⊎ ((q ≤ 8) × (m ≤ 3))
+largest-pair q m h k few =
+    ⊎-elim (λ e. inl ((omega (arith, ap (λ (n : ℕ). n * q) e)), k)) (λ (l : m < 4). inr (h, (omega arith))) (eq-or-lt-of-le k)
+
+module _ (q m : ℕ) (h : q ≤ mostWidth) (k : m ≤ mostStreams) (few : m * q ≤ mostBits) where
+  -- The largest metric of all
+  pub metric-largest : largestMetric q m ≤ 313981861776
+  metric-largest =
+      ⊎-elim
+      (λ p. omega (arith, largest-rises (p .0) m 4 (p .1), metric-of-four))
+      (λ p. omega (arith, largest-rises (p .0) m 3 (p .1), metric-of-three)) (largest-pair q m h k few)
+
+  -- The largest tree
+  pub tree-largest : treeNodes q m ≤ 17043520
+  tree-largest =
+      ⊎-elim
+      (λ p. omega (arith, tree-rises (p .0) m 4 (p .1), tree-of-four))
+      (λ p. omega (arith, tree-rises (p .0) m 3 (p .1), tree-of-three)) (largest-pair q m h k few)
 
 -- A member of a list has what every member has
 pub of-every : {A : Type 0} (P : A → Type 0) (xs : List A) {x : A} → Every P xs → x ∈ xs → P x
@@ -170,9 +199,9 @@ pub every-map : {A : Type 0} {P Q : A → Type 0} → ((x : A) → P x → Q x) 
 every-map f [] h = tt
 every-map f (x ∷ xs) h = (f x (h .0), every-map f xs (h .1))
 
--- A symbol has at most 6 bits
-pub width-small : (q : ℕ) → q ∈ widths → q ≤ 6
-width-small q h = of-every (λ (w : ℕ). w ≤ 6) widths (omega arith) h
+-- A symbol has at most 8 bits
+pub width-small : (q : ℕ) → q ∈ widths → q ≤ mostWidth
+width-small q h = of-every (λ (w : ℕ). w ≤ mostWidth) widths (omega arith) h
 
 -- A symbol has a bit
 pub width-positive : (q : ℕ) → q ∈ widths → 0 < q
@@ -183,8 +212,9 @@ module _ (b : Block) (ranged : InRange b) where
   pub metric-small : (rows : List Row) → RowsInRange (b .width) rows → length rows ≤ b .streams → (bits : Bits)
       → metric (b .width) rows bits < 2 ^ 39
   metric-small rows h k bits =
-      let rise = largest-rises (width-small (b .width) (ranged .width)) (length rows) 4 (omega arith) in
-      omega (arith, metric-largest, metric-bound (b .width) rows h bits)
+      let rise = largest-rises (le-refl (b .width)) (length rows) (b .streams) k in
+      let most = metric-largest (b .width) (b .streams) (width-small (b .width) (ranged .width)) (ranged .streams) (ranged .label) in
+      omega (arith, metric-bound (b .width) rows h bits)
 
   -- N x D fits 32 bits
   pub total-small : total b < 2 ^ 32
@@ -196,7 +226,7 @@ module _ (b : Block) (ranged : InRange b) where
 
   -- No tree has more nodes than the most that D may be
   pub tree-small : treeNodes (b .width) (b .streams) ≤ mostShare
-  tree-small = le-trans (tree-rises (width-small (b .width) (ranged .width)) (b .streams) 4 (ranged .streams)) (le-of-eq tree-largest)
+  tree-small = tree-largest (b .width) (b .streams) (width-small (b .width) (ranged .width)) (ranged .streams) (ranged .label)
 
   -- A block in range has the shape that the search needs
   pub shaped : Shaped b

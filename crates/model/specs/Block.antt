@@ -97,7 +97,11 @@ mostStreams = 4
 
 -- the most bits of a symbol
 abbrev pub mostWidth : ℕ
-mostWidth = 6
+mostWidth = 8
+
+-- the most bits of a label: four streams of 6 bits, or three of 8
+abbrev pub mostBits : ℕ
+mostBits = 24
 
 abbrev pub mostVectors : ℕ
 mostVectors = 64
@@ -117,9 +121,9 @@ mostReceived = 131071
 abbrev pub mostPrior : ℕ
 mostPrior = 1048575
 
--- "Q bits each: 1, 2, 4 or 6"
+-- "Q bits each: 1, 2, 4 or 6", and document 02's 8, "with up to three streams"
 abbrev pub widths : List ℕ
-widths = 1 ∷ 2 ∷ 4 ∷ 6 ∷ []
+widths = 1 ∷ 2 ∷ 4 ∷ 6 ∷ 8 ∷ []
 
 -- A row in range, with `later` rows below it: an entry right of the diagonal for each of them, Q priors
 pub record RowInRange (q later : ℕ) (r : Row) : Type 0 where
@@ -146,6 +150,7 @@ pub record InRange (b : Block) : Type 0 where
   pub stream : 1 ≤ b .streams
   pub streams : b .streams ≤ mostStreams
   pub width : b .width ∈ widths
+  pub label : b .streams * b .width ≤ mostBits
   pub vector : 1 ≤ length (b .vectors)
   pub vectors : length (b .vectors) ≤ mostVectors
   pub clip : b .clip ≤ mostClip

@@ -1,9 +1,10 @@
 -- What the program answers is document 01's answer: the searches agree (Below), and so do the answers that are read off them. A vector
 -- in range has metrics below the sentinel; the room for the minima is any that holds the label's bits.
-use Prim.Native.Nat.{ℕ, _^_, _≤_, _<_}
+use Prim.Native.Nat.{ℕ, _*_, _^_, _≤_, _<_}
 use mathlib.Core.Path.{_≡_, sym, _∙_, ap, ap₂, subst}
 use mathlib.Core.Bool.{Bool}
 use mathlib.Core.List.{List, [], _∷_, _++_, map, reverseAux}
+use native.Mathlib.Nat.{le-refl}
 use native.Mathlib.Omega.{arith}
 use lib.IntN.{ℤ}
 use lib.ListN.{length, drop, length-reverseAux}
@@ -11,7 +12,7 @@ use lib.Pow.{pow-mono}
 use Rattle.model.specs.Constellation.{Bits}
 use Rattle.model.specs.Metric.{Row, Vector, metric, labelBits, priorAt}
 use Rattle.model.specs.Soft.{places, softValue}
-use Rattle.model.specs.Block.{Answer, answer, RowsInRange, mostStreams, mostWidth}
+use Rattle.model.specs.Block.{Answer, answer, RowsInRange, mostStreams, mostWidth, mostBits}
 use Rattle.model.specs.Search.{search, valueAt, outcome}
 use Rattle.model.proofs.Lists.{map-upFrom}
 use Rattle.model.proofs.Search.{outcome-is}
@@ -24,8 +25,8 @@ use Rattle.pruning.proofs.Agree.{Agrees}
 use Rattle.pruning.proofs.Below.{search-agrees}
 
 -- The largest metric of so many rows is below the sentinel
-pub largest-low : (q m : ℕ) → q ≤ mostWidth → m ≤ mostStreams → largestMetric q m < above
-largest-low q m h k = omega (arith, largest-rises h m mostStreams k, metric-largest)
+pub largest-low : (q m : ℕ) → q ≤ mostWidth → m ≤ mostStreams → m * q ≤ mostBits → largestMetric q m < above
+largest-low q m h k few = omega (arith, metric-largest q m h k few)
 
 -- What agrees gives one answer
 same-answer : (v : Vector) (k : Kept) (allowance : ℕ) → Agrees v (search v allowance) k → replied v k ≡ outcome v (search v allowance)
@@ -42,16 +43,25 @@ last-rows q [] done h = h
 last-rows q (r ∷ todo) done h = last-rows q todo (r ∷ done) h .1
 
 module _ (v : Vector) (r : Ranged v) where
-  -- A node has at most 64 children
+  -- The largest metric of some of its rows is below the sentinel
+  pub rows-low : (n : ℕ) → n ≤ length (v .rows) → largestMetric (v .width) n < above
+  rows-low n h =
+      omega (
+        arith,
+        largest-rises (le-refl (v .width)) n (length (v .rows)) h,
+        largest-low (v .width) (length (v .rows)) (r .bits) (r .streams) (r .label),
+      )
+
+  -- A node has at most so many children
   pub few-children : 2 ^ v .width ≤ mostChildren
   few-children = pow-mono (r .bits)
 
   -- Every partial metric is below the sentinel
   metric-low : (todo done : List Row) → reverseAux todo done ≡ v .rows → (bits : Bits) → metric (v .width) done bits < above
   metric-low todo done e bits =
-      let few : length done ≤ mostStreams = omega (arith, r .streams, ap length e, length-reverseAux todo done) in
+      let few : length done ≤ length (v .rows) = omega (arith, ap length e, length-reverseAux todo done) in
       let ranged = last-rows (v .width) todo done (subst (RowsInRange (v .width)) (sym e) (r .rows)) in
-      omega (arith, largest-low (v .width) (length done) (r .bits) few, metric-bound (v .width) done ranged bits)
+      omega (arith, rows-low (length done) few, metric-bound (v .width) done ranged bits)
 
   -- The program's answer is the model's, under any allowance
   pub replied-is : (allowance room : ℕ) → labelBits v ≤ room

@@ -21,7 +21,7 @@ use Rattle.metric.specs.Parts.{bitOf}
 use Rattle.pruning.specs.Program.{above, largestPartial, Ranged, Taken, Kept, keptOf, fresh, loweredAt, lowered, noted}
 use Rattle.pruning.specs.Program.{noRow, chosen, keyOf, childOf, keysOf, onward, siblings, testOf, below}
 use Rattle.pruning.proofs.Arrays.{least-below, set-each, Held, held-start}
-use Rattle.pruning.proofs.Answer.{largest-low}
+use Rattle.pruning.proofs.Answer.{rows-low}
 
 -- B and each minimum are at most what they were
 pub record Falls (t u : Taken) : Type 0 where
@@ -123,7 +123,7 @@ symbol-inside keys q n s en e = omega (arith, least-below keys n (omega (arith, 
 
 -- Every partial metric is below the sentinel
 pub partial-low : (v : Vector) → Ranged v → (level : ℕ) → largestPartial v level < above
-partial-low v r level = largest-low (v .width) (length (v .rows) - level) (r .bits) (omega (arith, r .streams))
+partial-low v r level = rows-low v r (length (v .rows) - level) (omega arith)
 
 row-ranged : (q : ℕ) (rows : List Row) (i : ℕ) → i < length rows → RowsInRange q rows
     → RowInRange q (length rows - suc i) (getD rows i noRow)

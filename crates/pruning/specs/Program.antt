@@ -11,15 +11,12 @@ use Rattle.model.specs.Constellation.{real, bitsOf}
 use Rattle.model.specs.Metric.{Row, Vector, increment, labelBits, priorAt}
 use Rattle.model.specs.Soft.{Least, infinite, finite, upFrom, places, softValue}
 use Rattle.model.specs.Walk.{anyOf}
-use Rattle.model.specs.Block.{Answer, RowsInRange, mostStreams, mostWidth}
+use Rattle.model.specs.Block.{Answer, RowsInRange, mostStreams, mostWidth, mostBits}
 use Rattle.model.proofs.Bounds.{largestMetric}
 use Rattle.metric.specs.Parts.{bitOf, filled}
 use Rattle.pruning.specs.Arrays.{leastFirst}
 
--- The most bits that a label has, and the most children of a node: the lengths of arrays
-abbrev pub mostBits : ℕ
-mostBits = mostStreams * mostWidth
-
+-- The most children of a node
 abbrev pub mostChildren : ℕ
 mostChildren = 2 ^ mostWidth
 
@@ -29,6 +26,7 @@ pub record Ranged (v : Vector) : Type 0 where
   pub bits : v .width ≤ mostWidth
   pub stream : 1 ≤ length (v .rows)
   pub streams : length (v .rows) ≤ mostStreams
+  pub label : length (v .rows) * v .width ≤ mostBits
   pub rows : RowsInRange (v .width) (v .rows)
 
 -- The largest partial metric of a node with `level` streams to choose

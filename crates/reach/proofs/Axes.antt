@@ -12,9 +12,9 @@ use lib.Dec.{eqb}
 use lib.ListN.{length, getD, set, length-set}
 use lib.Seq.{getD-set-same, getD-set-other}
 use lib.Pow.{high, ones-split, ones-lt, pow-pos, pow-mono}
+use Rattle.model.specs.Block.{mostBits}
 use Rattle.metric.specs.Parts.{bitOf, filledFrom}
 use Rattle.metric.proofs.Filled.{from-more, from-length, from-before, from-at}
-use Rattle.pruning.specs.Program.{mostBits}
 use Rattle.pruning.specs.Reach.{widestOf}
 use Rattle.pruning.proofs.Reach.{widest-split, widest-same, real-bit, imaginary-bit, child-bit}
 use Rattle.reach.specs.Reach.{limitIn, axisReach, AxisFilled}

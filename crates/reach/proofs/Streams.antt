@@ -5,17 +5,16 @@ use mathlib.Core.Bool.{true}
 use mathlib.Core.List.{List}
 use mathlib.Core.Logic.{inl}
 use native.Mathlib.Decide.{decLt}
-use native.Mathlib.Nat.{ne-of-lt, ne-of-gt, mul-le-mul, suc-mul, zero-mul, mod-lt, not-suc-le-zero}
+use native.Mathlib.Nat.{le-refl, ne-of-lt, ne-of-gt, mul-le-mul, suc-mul, zero-mul, mod-lt, not-suc-le-zero}
 use native.Mathlib.Numerals.{add-one}
 use native.Mathlib.Omega.{arith}
 use lib.ListN.{length, getD, set, length-set}
 use lib.Seq.{getD-set-same, getD-set-other}
 use lib.Pow.{pow-pos, pow-mono, ones-lt}
-use Rattle.model.specs.Block.{mostStreams, mostWidth}
+use Rattle.model.specs.Block.{mostStreams, mostWidth, mostBits}
 use Rattle.metric.specs.Tables.{Axis, axisBits}
 use Rattle.metric.specs.Tables.Axis.{real, imaginary}
 use Rattle.metric.proofs.Tables.{axis-few}
-use Rattle.pruning.specs.Program.{mostBits}
 use Rattle.pruning.specs.Reach.{widestOf}
 use Rattle.pruning.proofs.Reach.{widest-split, widest-same}
 use Rattle.model.proofs.Numbers.{first-half}
@@ -33,12 +32,13 @@ stream-is q limit limits j s entry h =
     ap₂ max (entry real (s / 2 ^ (q / 2)) (first-half q s h)) (entry imaginary (s % 2 ^ (q / 2)) (mod-lt s (pow-pos (q / 2))))
     ∙ halves limit (j * q) q s
 
--- The bits of the first streams are within the array's
-pub bits-few : (q j : ℕ) → q ≤ mostWidth → j < mostStreams → j * q + q ≤ mostBits
-bits-few q j few inside = omega (arith, mul-le-mul inside few, suc-mul j q)
+-- The bits of one of a label's streams are within the label's
+pub bits-few : (q j m : ℕ) → j < m → m * q ≤ mostBits → j * q + q ≤ mostBits
+bits-few q j m inside label = omega (arith, mul-le-mul inside (le-refl q), suc-mul j q)
 
 -- The two axes are filled, one after the other
-module _ {q j : ℕ} {old one two : List ℕ} (few : q ≤ mostWidth) (inside : j < mostStreams) (room : length old ≡ limitsSize)
+module _ {q j : ℕ} {old one two : List ℕ} (few : q ≤ mostWidth) (inside : j < mostStreams) (label : j * q + q ≤ mostBits)
+    (room : length old ≡ limitsSize)
     (first : AxisFilled old one (axisStart q j real) (axisBits q real) (entryPlace j real) (axisBits q real))
     (second : AxisFilled one two (axisStart q j imaginary) (axisBits q imaginary) (entryPlace j imaginary) (axisBits q imaginary)) where
   size : length two ≡ limitsSize
@@ -57,7 +57,7 @@ module _ {q j : ℕ} {old one two : List ℕ} (few : q ≤ mostWidth) (inside : 
       let e : axisStart q j imaginary + (axisBits q imaginary - axisBits q imaginary) ≡ axisStart q j imaginary = omega arith in
       second .each g h ∙ ap (λ (i : ℕ). axisReach (limitIn one) i (axisBits q imaginary) g) e
       ∙ axis-same (limitIn one) (limitIn old) (axisStart q j imaginary) (axisBits q imaginary) g
-      (λ i k l. first .kept i (inl (omega (arith, bits-few q j few inside))))
+      (λ i k l. first .kept i (inl (omega (arith, label))))
 
   own : streamReach q two j (2 ^ q - 1) ≡ widestOf (λ _. true) (limitIn old) (j * q) q
   own = stream-is q (limitIn old) two j (2 ^ q - 1) entries (ones-lt q) ∙ all-ones (limitIn old) (j * q) q
@@ -97,7 +97,7 @@ reaches-none q old room = record {
 }
 
 -- One stream more
-module _ {q j : ℕ} (old : List ℕ) {now new : List ℕ} (few : q ≤ mostWidth) (inside : j < mostStreams) (so-far : Filling q old now j)
+module _ {q j : ℕ} (old : List ℕ) {now new : List ℕ} (few : q ≤ mostWidth) (label : j * q + q ≤ mostBits) (so-far : Filling q old now j)
     (filled : StreamFilled q now new j) where
   firsts : (level : ℕ) → level ≤ suc j → Dec (level < suc j)
       → getD new (firstPlace level) 0 ≡ widestOf (λ _. true) (limitIn old) 0 (level * q)
@@ -109,7 +109,7 @@ module _ {q j : ℕ} (old : List ℕ) {now new : List ℕ} (few : q ≤ mostWidt
       ap (λ (k : ℕ). getD new (firstPlace k) 0) e ∙ filled .first
       ∙ ap₂ max (so-far .made .first j (omega arith))
       (widest-same (λ _. true) (λ _. true) (limitIn now) (limitIn old) (j * q) q
-      (λ i k l. so-far .same i (omega (arith, bits-few q j few inside))))
+      (λ i k l. so-far .same i (omega (arith, label))))
       ∙ sym (rw z at (widest-split (λ _. true) (limitIn old) 0 (j * q) q)) ∙ ap (widestOf (λ _. true) (limitIn old) 0) (sym n)
 
   older : (i : ℕ) → i < j → (x : Axis) (g : ℕ) → g < 2 ^ axisBits q x
@@ -120,8 +120,8 @@ module _ {q j : ℕ} (old : List ℕ) {now new : List ℕ} (few : q ≤ mostWidt
       filled .earlier (entryPlace i imaginary + g) (omega arith) (omega (arith, pow-mono (axis-few q imaginary few)))
 
   start : (x : Axis) → axisStart q j x + axisBits q x ≤ mostBits
-  start real = omega (arith, bits-few q j few inside)
-  start imaginary = omega (arith, bits-few q j few inside)
+  start real = omega (arith, label)
+  start imaginary = omega (arith, label)
 
   each : (i : ℕ) → i < suc j → (x : Axis) (g : ℕ) → g < 2 ^ axisBits q x → Dec (i < j)
       → getD new (entryPlace i x + g) 0 ≡ axisReach (limitIn old) (axisStart q i x) (axisBits q x) g

@@ -6,11 +6,10 @@ use mathlib.Core.Bool.{true}
 use mathlib.Core.List.{List}
 use mathlib.Core.Logic.{_⊎_}
 use lib.ListN.{length, getD}
-use Rattle.model.specs.Block.{mostStreams}
+use Rattle.model.specs.Block.{mostStreams, mostBits}
 use Rattle.metric.specs.Parts.{span, bitOf}
 use Rattle.metric.specs.Tables.{Axis, axisBits}
 use Rattle.metric.specs.Tables.Axis.{real, imaginary}
-use Rattle.pruning.specs.Program.{mostBits}
 use Rattle.pruning.specs.Reach.{widestOf}
 
 -- The places of the array: first each bit's limit

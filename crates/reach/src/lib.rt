@@ -1,12 +1,12 @@
 // What a label's limits give, so that no pass test looks at single bits: the widest limit of the bits that are not chosen yet, and, for each
 // label of an axis, the widest limit of the bits that are 1 in it. An exclusive or with the best label's bits says which bits of a node are
 // opposite to that label's.
+use metric::AXES;
 ghost use mathlib.Core.Path.{_≡_};
 ghost use Prim.Native.Nat.{_+_, _*_, _-_, _<_, _≤_, _^_, max};
 ghost use lib.ListN.{length, getD};
-ghost use Rattle.model.specs.Block.{mostStreams, mostWidth};
+ghost use Rattle.model.specs.Block.{mostStreams, mostWidth, mostBits};
 ghost use Rattle.metric.specs.Parts.{axisWidth, filledFrom};
-ghost use Rattle.pruning.specs.Program.{mostBits};
 ghost use Rattle.reach.specs.Reach.{limitIn, limitsSize, AxisFilled, StreamFilled, Reaches, streamReach, chosenReach};
 
 // The places of the array of limits: first a label's bits, then, from here on, the widest limits of the first streams;
@@ -21,7 +21,7 @@ pub const STREAM: usize = 2 * SPAN;
 pub const LIMITS: usize = ENTRIES + 4 * STREAM;
 
 // How many labels the widest axis has.
-const SPAN: usize = 8;
+const SPAN: usize = AXES / 2;
 
 // The larger of two.
 pub fn larger(a: u64, b: u64) -> u64
@@ -71,7 +71,7 @@ fn stream_reach(q: usize, limits: &[u64], j: usize, symbol: usize) -> u64
 
 // What the limits of stream j's bits give: the entries of its two axes, and the widest limit of the streams up to it.
 fn fill_stream(q: usize, limits: &mut [u64], j: usize)
-    requires { ⌜ (q ≤ mostWidth) × (j < mostStreams) × (length (now limits) ≡ limitsSize) ⌝ }
+    requires { ⌜ (q ≤ mostWidth) × (j < mostStreams) × (j * q + q ≤ mostBits) × (length (now limits) ≡ limitsSize) ⌝ }
     ensures { λ _. ⌜ StreamFilled q (now (limits .entry)) (now (limits .exit)) j ⌝ }
 {
     let w = q - q / 2;
@@ -85,7 +85,7 @@ fn fill_stream(q: usize, limits: &mut [u64], j: usize)
 
 // What the limits of m streams' bits give, behind them.
 pub fn fill(m: usize, q: usize, limits: &mut [u64])
-    requires { ⌜ (m ≤ mostStreams) × (q ≤ mostWidth) × (length (now limits) ≡ limitsSize) ⌝ }
+    requires { ⌜ (m ≤ mostStreams) × (q ≤ mostWidth) × (m * q ≤ mostBits) × (length (now limits) ≡ limitsSize) ⌝ }
     ensures { λ _. ⌜ Reaches q (limitIn (now (limits .entry))) (now (limits .exit)) m ⌝ }
 {
     limits[FIRST] = 0;

@@ -7,7 +7,6 @@ use borrow.Author.Tests.{le-ltb}
 use lib.IntN.{ℤ, pos, negsuc, _+ℤ_}
 use mir.Syntax.{w32}
 use mir.Val.{SFits}
-use Rattle.block.specs.Reading.{vectorSize}
 
 -- A number of 32 bits, moved up by 2 to the 31, is one from 0 to below 2 to the 32
 pub record Raised (z : ℤ) : Type 0 where
@@ -20,15 +19,13 @@ raised (pos n) f = record { value = n + 2147483648; is = refl; small = omega (ar
 raised (negsuc n) f =
     record { value = 2147483648 - suc n; is = rw (le-ltb 2147483648 (suc n) (omega (arith, f .sfits))); small = omega arith }
 
--- A record has at most 3,077 whole numbers; the parts of that sum
-pub record Sums (m q n : ℕ) : Type 0 where
+-- A record has at most 3,077 whole numbers, a vector's priors being p; the parts of that sum
+pub record Sums (m n p : ℕ) : Type 0 where
   pub square : m * m ≤ 16
-  pub priors : m * q ≤ 24
-  pub vectors : n * vectorSize m q ≤ 3072
+  pub vectors : n * (m * m + 2 * m + p) ≤ 3072
 
-pub sums : (m q n : ℕ) → m ≤ 4 → q ≤ 6 → n ≤ 64 → Sums m q n
-sums m q n h k l =
+pub sums : (m n p : ℕ) → m ≤ 4 → n ≤ 64 → p ≤ 24 → Sums m n p
+sums m n p h k l =
     let square : m * m ≤ 16 = mul-le-mul h h in
-    let priors : m * q ≤ 24 = mul-le-mul h k in
-    let vector : vectorSize m q ≤ 48 = omega arith in
-    record { square = square; priors = priors; vectors = mul-le-mul l vector }
+    let vector : m * m + 2 * m + p ≤ 48 = omega arith in
+    record { square = square; vectors = mul-le-mul k vector }

@@ -3,15 +3,18 @@ use Prim.Native.Nat.{ℕ, zero, suc, _+_, _*_, _%_, min}
 use mathlib.Core.List.{List}
 use lib.IntN.{ℤ, pos, natAbs, _+ℤ_}
 use lib.ListN.{getD}
-use Rattle.block.specs.Reading.{vectorSize}
 
 -- M, Q or N, and no more than the most
 abbrev pub sizeAt : List ℤ → ℕ → ℕ → ℕ
 sizeAt numbers i most = min (natAbs (getD numbers i (pos 0))) most
 
--- How many whole numbers a record has: M, Q, N, C and D, and those of N vectors
+-- How many whole numbers a vector has: M × M of its matrix, 2 × M received, and M × Q priors, which are at most 24
+abbrev pub vectorCount : ℕ → ℕ → ℕ
+vectorCount m q = m * m + 2 * m + min (m * q) 24
+
+-- How many a record has: M, Q, N, C and D, and those of N vectors
 abbrev pub countOf : List ℤ → ℕ
-countOf numbers = 5 + sizeAt numbers 2 64 * vectorSize (sizeAt numbers 0 4) (sizeAt numbers 1 6)
+countOf numbers = 5 + sizeAt numbers 2 64 * vectorCount (sizeAt numbers 0 4) (sizeAt numbers 1 8)
 
 -- A number moved up by 2 to the 31
 abbrev pub moved : ℤ → ℕ

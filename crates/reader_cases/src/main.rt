@@ -11,23 +11,29 @@ ghost use lib.IntN.{natAbs};
 ghost use lib.ListN.{length};
 ghost use Rattle.reader_cases.specs.Numbers.{countOf, moved, mixed, checksumOf};
 
-// M, Q or N of an accepted record. It is at most what document 01 allows; that it is no more is seen to here too, so that this program
-// rests on nothing that is proved of the reader.
+fn smaller(a: usize, b: usize) -> usize
+    ensures { λ r. ⌜ r ≡ min a b ⌝ }
+{
+    if a < b { a } else { b }
+}
+
+// M, Q or N of an accepted record. It is at most what documents 01 and 02 allow; that it is no more is seen to here too, so that this
+// program rests on nothing that is proved of the reader.
 fn size(z: i32, most: usize) -> usize
     ensures { λ r. ⌜ r ≡ min (natAbs z) most ⌝ }
 {
-    let size = integers::magnitude(z as i64) as usize;
-    if size < most { size } else { most }
+    smaller(integers::magnitude(z as i64) as usize, most)
 }
 
-// How many whole numbers a record has, by its M, Q and N.
+// How many whole numbers a record has, by its M, Q and N. A vector's priors are at most 24: Q = 8 is with up to three streams.
 fn count(numbers: &[i32; 3077]) -> usize
     ensures { λ r. ⌜ (r ≡ countOf (now (numbers .entry))) × (r ≤ 3077) ⌝ }
 {
     let m = size(numbers[0], 4);
-    let q = size(numbers[1], 6);
+    let q = size(numbers[1], 8);
     let n = size(numbers[2], 64);
-    5 + n * (m * m + 2 * m + m * q)
+    let priors = smaller(m * q, 24);
+    5 + n * (m * m + 2 * m + priors)
 }
 
 // A whole number moved up by 2 to the 31, so that it is not negative.

@@ -11,7 +11,7 @@ use lib.ListN.{length, take, drop, length-drop}
 use lib.Pow.{pow-pos}
 use lib.Seq.{length-take-le}
 use Rattle.model.specs.Block.{mostStreams, mostWidth}
-use Rattle.metric.specs.Parts.{childMetric, realIn, imaginaryIn}
+use Rattle.metric.specs.Parts.{span, childMetric, realIn, imaginaryIn}
 use Rattle.metric.specs.Rows.{Measured, childOf}
 use Rattle.metric.specs.Tables.Axis.{real}
 use Rattle.cutoff.specs.Cut.{CutAt, ShutAsked}
@@ -43,26 +43,26 @@ module _ (m q : ℕ) (numbers : List ℤ) (level bits partial label best : ℕ) 
   -- The entries of the children's stream, and the best label's symbol there
   module _ (inner : 0 < level) (inside : level ≤ m) (few : m ≤ mostStreams) (size : length limits ≡ limitsSize) (at : ℕ)
       (ea : at ≡ entryPlace (level - 1) real) (own : ℕ) (eo : own ≡ label / 2 ^ ((m - level) * q) % 2 ^ q) where
-    entries-are : take (at + 16 - at) (drop at limits) ≡ entriesOf limits (level - 1)
-    entries-are = let e : at + 16 - at ≡ 16 = omega arith in rw (e, ea)
+    entries-are : take (at + 2 * span - at) (drop at limits) ≡ entriesOf limits (level - 1)
+    entries-are = let e : at + 2 * span - at ≡ 2 * span = omega arith in rw (e, ea)
 
     own-is : own ≡ symbolOf m q label (level - 1)
     own-is = let up : suc (level - 1) ≡ level = omega arith in rw up eo
 
-    pub shut-asked : q ≤ mostWidth → partial < 2 ^ 62 → ShutAsked q partial axes (take (at + 16 - at) (drop at limits)) own
+    pub shut-asked : q ≤ mostWidth → partial < 2 ^ 62 → ShutAsked q partial axes (take (at + 2 * span - at) (drop at limits)) own
     shut-asked narrow low = record {
       bits = narrow;
       low = low;
       both = measured .size;
       small = measured .small;
-      stream = ap length entries-are ∙ length-take-le 16 (drop (entryPlace (level - 1) real) limits) (omega (arith, length-drop (entryPlace (level - 1) real) limits));
+      stream = ap length entries-are ∙ length-take-le (2 * span) (drop (entryPlace (level - 1) real) limits) (omega (arith, length-drop (entryPlace (level - 1) real) limits));
       symbol = rw eo (mod-lt _ (pow-pos q));
     }
 
     -- All would be cut
     pub cut-all : {b : Bounds} → BoundsOf m q level bits label best limits b
         → ((s : ℕ) → s < 2 ^ q
-        → CutAt q (b .best) (b .free) (b .chosen) (b .cap) (take (at + 16 - at) (drop at limits)) own
+        → CutAt q (b .best) (b .free) (b .chosen) (b .cap) (take (at + 2 * span - at) (drop at limits)) own
         (childMetric q partial (realIn axes) (imaginaryIn axes) s) s)
         → Expanded m q numbers level bits partial label best limits keys keys false
     cut-all {b} o cuts = record {

@@ -7,7 +7,7 @@ use native.Mathlib.Omega.{arith}
 use native.Mathlib.Nat.{suc-mul, mul-le-mul, le-refl}
 use lib.ListN.{length, take, drop}
 use lib.IntN.{ℤ}
-use Rattle.model.specs.Block.{InRange, mostStreams}
+use Rattle.model.specs.Block.{InRange, mostStreams, mostBits}
 use Rattle.model.proofs.Bounds.{width-small, width-positive}
 use Rattle.block.specs.Reading.{vectorSize, countAt, readWhole, got, into}
 use Rattle.block.specs.Contents.{vectorNumbers, blockOf}
@@ -29,6 +29,7 @@ vector-asked list r p k h =
         streams = r .streams;
         bit = width-positive (countAt 1 list) (r .width);
         bits = width-small (countAt 1 list) (r .width);
+        label = r .label;
         room = omega (arith, placed .many);
         entries = placed .entries;
         plain = λ i l. placed .diagonal i l .is ∙ sym (rw (placed .diagonal i l .is));
@@ -54,7 +55,7 @@ lent-holds bytes at list list′ room e =
 pub record Sums (m q : ℕ) : Type 0 where
   pub streams : m ≤ mostStreams
   pub square : m * m ≤ 16
-  pub bits : m * q ≤ 24
+  pub bits : m * q ≤ mostBits
 
 module _ (list : List ℤ) (h : Holds list) (m q : ℕ) (em : m ≡ countAt 0 list) (eq : q ≡ countAt 1 list) where
   pub sums : Sums m q
@@ -62,8 +63,7 @@ module _ (list : List ℤ) (h : Holds list) (m q : ℕ) (em : m ≡ countAt 0 li
   sums =
       let r = h .ranged in
       let streams : m ≤ mostStreams = omega (arith, em, r .streams) in
-      let bits : q ≤ 6 = omega (arith, eq, width-small (countAt 1 list) (r .width)) in
-      record { streams = streams; square = mul-le-mul streams streams; bits = mul-le-mul streams bits }
+      record { streams = streams; square = mul-le-mul streams streams; bits = rw (em, eq) (r .label) }
 
   -- Vector k ends within the list, and a search may be asked for the part that it is
   module _ (k : ℕ) (l : k < countAt 2 list) where

@@ -51,5 +51,6 @@ ranged m q clip numbers a = record {
   bits = a .vector .bits;
   stream = rw (rows-count m q numbers) (a .stream);
   streams = rw (rows-count m q numbers) (a .vector .streams);
+  label = rw (rows-count m q numbers) (a .vector .label);
   rows = rows-ranged q (rowsOf m q numbers) (each-ranged m q numbers (a .vector));
 }

@@ -12,9 +12,10 @@ use lib.IntN.{ℤ}
 use lib.Pow.{pow-mono}
 use Rattle.model.specs.Metric.{Vector}
 use Rattle.block.proofs.Places.{rows-count}
+use Rattle.model.specs.Block.{mostWidth, mostBits}
 use Rattle.metric.specs.Rows.{childOf as rowKey}
 use Rattle.pruning.specs.Arrays.{leastFirst}
-use Rattle.pruning.specs.Program.{above, largestPartial, Ranged, Taken, Kept, keptOf, passing, noted, chosen, keyOf, childOf, below, restOf}
+use Rattle.pruning.specs.Program.{mostChildren, above, largestPartial, Ranged, Taken, Kept, keptOf, passing, noted, chosen, keyOf, childOf, below, restOf}
 use Rattle.pruning.proofs.Arrays.{Same, Held, held-least, held-set, held-same, same-part}
 use Rattle.pruning.proofs.Answer.{few-children}
 use Rattle.pruning.proofs.Bounds.{kept-falls, chosen-by, symbol-inside, key-bound, keys-held, partial-low, child-placed, child-by}
@@ -29,6 +30,7 @@ use Rattle.search.specs.Expand.{WouldCut}
 use Rattle.search.specs.declared.Verdict.{Verdict}
 use Rattle.search.specs.declared.Verdict.the-variants.{Ended, Cut, Enter, Stop}
 use Rattle.search.proofs.Rows.{ranged, key-by}
+use Rattle.search.proofs.Values.{rest-few, keys-rise}
 use Rattle.search.proofs.Limits.{passing-by, would-cut, node-fails}
 use Rattle.search.proofs.Verdicts.{Says, says}
 
@@ -60,9 +62,6 @@ pub next-length : {m q level node : ℕ} {keys after : List ℕ} {level′ child
     → length after ≡ length keys
 next-length n = n .tried .size
 
-three-few : (m q level : ℕ) → m ≤ 4 → (level ≡ 0 → ⊥) → q ≤ 6 → (m - level) * q ≤ 18
-three-few m q level h k l = let f : m - level ≤ 3 = omega arith in omega (arith, mul-le-mul f l)
-
 module _ {m q clip : ℕ} {numbers : List ℤ} {level node partial : ℕ} {t : Taken} {limits₀ : List ℕ}
     (w : WalkAsked m q clip numbers level node partial t limits₀) where
   abbrev v : Vector
@@ -78,13 +77,11 @@ module _ {m q clip : ℕ} {numbers : List ℤ} {level node partial : ℕ} {t : T
   inside = omega (arith, streams, w .inside)
 
   -- The sizes that the code computes with
-  pub kids-few : 2 ^ q ≤ 64
+  pub kids-few : 2 ^ q ≤ mostChildren
   kids-few = few-children v in-range
 
-  pub places-few : keyCount q ≤ 72
-  places-few =
-      let half : q - q / 2 ≤ 3 = omega (arith, w .asked .vector .bits) in
-      omega (arith, kids-few, pow-mono half)
+  pub places-few : keyCount q ≤ keyCount mostWidth
+  places-few = keys-rise (w .asked .vector .bits)
 
   pub partial-few : partial ≤ above
   partial-few = le-of-lt (lt-of-le-of-lt (w .bounded) (partial-low v in-range level))
@@ -100,8 +97,8 @@ module _ {m q clip : ℕ} {numbers : List ℤ} {level node partial : ℕ} {t : T
     pub row-inside : level - 1 < m
     row-inside = omega (arith, w .inside)
 
-    pub chosen-few : (m - level) * q ≤ 18
-    chosen-few = three-few m q level (w .asked .vector .streams) inner (w .asked .vector .bits)
+    pub chosen-few : (m - level) * q ≤ mostBits
+    chosen-few = rest-few level (w .asked .vector)
 
     pub node-placed : node < 2 ^ ((m - level) * q)
     node-placed = subst (λ (x : ℕ). node < 2 ^ x) (chosen-by v m level (sym streams)) (w .placed)

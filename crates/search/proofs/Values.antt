@@ -2,30 +2,36 @@
 use Prim.Native.Nat.{ℕ, _+_, _-_, _*_, _/_, _^_, _≤_, _<_}
 use mathlib.Core.Path.{_≡_, refl, sym, _∙_, ap, ap₂}
 use mathlib.Core.Bool.{Bool}
+use mathlib.Core.Logic.{⊎-elim}
 use mathlib.Core.List.{List, map, _++_}
-use native.Mathlib.Nat.{le-refl, mul-le-mul}
+use native.Mathlib.Nat.{le-refl, le-trans, mul-le-mul, add-le-add}
 use native.Mathlib.Omega.{arith}
 use lib.IntN.{ℤ, natAbs}
 use lib.ListN.{length, getD, set, drop, replicate, length-replicate}
 use lib.Pow.{pow-pos, pow-mono}
 use Rattle.model.specs.Metric.{Vector, labelBits, priorAt}
 use Rattle.model.specs.Soft.{softValue, places}
-use Rattle.model.specs.Block.{Answer, answer}
+use Rattle.model.specs.Block.{Answer, answer, mostBits}
+use Rattle.model.proofs.Bounds.{largest-pair}
 use Rattle.block.proofs.Places.{rows-count, all-priors-at}
 use Rattle.metric.specs.Rows.{VectorAsked}
 use Rattle.metric.specs.Parts.{filled}
 use Rattle.metric.proofs.Filled.{filled-more, filled-same}
 use Rattle.pruning.specs.Program.{above, sideOf, Taken, takenOf, takenIn, limitsOf, keptOf, fresh, chosen, below, valueOf, answerOf}
 use Rattle.siblings.specs.Rows.{keyCount}
-use Rattle.search.specs.Limits.{vectorAt, SearchAsked, minimaSize, Renewed, WalkAsked}
+use Rattle.search.specs.Limits.{vectorAt, SearchAsked, minimaSize, keyPlaces, Renewed, WalkAsked}
 use Rattle.search.specs.Values.{MinimaLow, Answered}
 use Rattle.pruning.proofs.Answer.{answered, soft-is}
 use Rattle.pruning.proofs.Bounds.{minima-low}
 use Rattle.search.proofs.Rows.{ranged}
 
--- A label has at most 24 bits
-pub few : {m q : ℕ} {numbers : List ℤ} → VectorAsked m q numbers → m * q ≤ 24
-few h = omega (arith, mul-le-mul (h .streams) (h .bits))
+-- So have the symbols behind some streams
+pub rest-few : {m q : ℕ} {numbers : List ℤ} (level : ℕ) → VectorAsked m q numbers → (m - level) * q ≤ mostBits
+rest-few {m} {q} level h = let fewer : m - level ≤ m = omega arith in omega (arith, mul-le-mul fewer (le-refl q), h .label)
+
+-- The keys of wider symbols are more
+pub keys-rise : {q w : ℕ} → q ≤ w → keyCount q ≤ keyCount w
+keys-rise {q} {w} h = let half : q - q / 2 ≤ w - w / 2 = omega arith in add-le-add (pow-mono h) (pow-mono half)
 
 -- M rows of Q bits make the label's bits
 pub bits-are : (m q clip : ℕ) (numbers : List ℤ) → m * q ≡ labelBits (vectorAt m q clip numbers)
@@ -58,11 +64,10 @@ write-more v zeros ones i before now r e f =
 
 module _ {m q clip : ℕ} {numbers : List ℤ} (h : SearchAsked m q clip numbers) where
   -- The keys of all levels have room
-  pub keys-many : m * keyCount q ≤ 288
+  pub keys-many : m * keyCount q ≤ keyPlaces
   keys-many =
-      let half : q - q / 2 ≤ 3 = omega (arith, h .vector .bits) in
-      let most : keyCount q ≤ 72 = omega (arith, pow-mono (h .vector .bits), pow-mono half) in
-      omega (arith, mul-le-mul (h .vector .streams) most)
+      ⊎-elim (λ p. le-trans (mul-le-mul (p .1) (keys-rise (p .0))) (omega arith)) (λ p. mul-le-mul (p .1) (keys-rise (p .0)))
+      (largest-pair q m (h .vector .bits) (h .vector .streams) (h .vector .label))
 
   -- The limits before the first leaf
   module _ {minima : List ℕ} (r : Renewed (vectorAt m q clip numbers) 0 above (replicate minimaSize above) minima) where
@@ -111,7 +116,7 @@ module _ {m q clip : ℕ} {numbers : List ℤ} (h : SearchAsked m q clip numbers
         bits = bits-are m q clip numbers
 
         wide : labelBits v ≤ 24
-        wide = omega (arith, few (h .vector), bits)
+        wide = omega (arith, h .vector .label, bits)
 
         from : keptOf count stopped t ≡ below v allowance (length (v .rows)) 0 0 (fresh 24)
         from = e ∙ ap (λ (l : ℕ). below v allowance l 0 0 (fresh 24)) (sym (rows-count m q numbers))

@@ -8,14 +8,14 @@ use lib.Dec.{leb, ltb}
 use lib.ListN.{length, getD}
 use lib.IntN.{ℤ, pos, negsuc}
 use Rattle.model.specs.Metric.{Vector, labelBits, priorAt}
-use Rattle.model.specs.Block.{mostClip}
+use Rattle.model.specs.Block.{mostWidth, mostBits, mostClip}
 use Rattle.block.specs.Contents.{rowsOf}
 use Rattle.metric.specs.Rows.{VectorAsked}
 use Rattle.metric.specs.Parts.{bitOf}
 use Rattle.pruning.specs.Arrays.{leastFirst}
-use Rattle.pruning.specs.Program.{mostBits, above, largestPartial, Taken, takenIn, limitsOf, reachOf, chosen}
+use Rattle.pruning.specs.Program.{above, largestPartial, Taken, takenIn, limitsOf, reachOf, chosen}
 use Rattle.reach.specs.Reach.{limitsSize, firstPlace, Reaches, chosenReach}
-use Rattle.siblings.specs.Rows.{Took}
+use Rattle.siblings.specs.Rows.{keyCount, Took}
 use Rattle.search.specs.declared.Task.{Task}
 use Rattle.search.specs.declared.Verdict.{Verdict}
 use Rattle.search.specs.declared.Verdict.the-variants.{Ended, Cut, Enter, Stop}
@@ -51,6 +51,10 @@ limitAt v t i =
 -- The places of the array of minima, with the limits and what they give behind them
 abbrev pub minimaSize : ℕ
 minimaSize = 2 * mostBits + limitsSize
+
+-- The places of the keys of all levels, three of the widest symbols or four of 6 bits
+abbrev pub keyPlaces : ℕ
+keyPlaces = 3 * keyCount mostWidth
 
 -- The limits kept are those of what the leaves gave: the array has what they give
 abbrev pub Limited : Vector → Taken → List ℕ → Type 0

@@ -1,5 +1,6 @@
 // The search of one vector (document 01, "The walk"): the next child, the pass test, the leaves taken into the minima, the walk under an
 // allowance, and the soft values.
+use constellation::PLACES;
 use cutoff::Bounds;
 use metric::AXES;
 use metric::Node;
@@ -14,14 +15,15 @@ ghost use lib.ListN.{length, getD, set, take};
 ghost use mathlib.Core.List.{_++_};
 ghost use Rattle.model.specs.Metric.{priorAt};
 ghost use Rattle.model.specs.Soft.{softValue};
-ghost use Rattle.model.specs.Block.{mostStreams, mostWidth, mostClip};
+ghost use Rattle.model.specs.Block.{mostStreams, mostWidth, mostBits, mostClip};
+ghost use Rattle.constellation.specs.Points.{Points};
 ghost use Rattle.metric.specs.Rows.{VectorAsked};
 ghost use Rattle.metric.specs.Tables.{Tabled};
 ghost use Rattle.metric.specs.Parts.{filled};
 ghost use Rattle.pruning.specs.Program.{above, sideOf, valueOf, takenIn, zerosOf, onesOf, limitsOf, keptOf, reachOf, lowered, sooner, noted, below};
 ghost use Rattle.reach.specs.Reach.{limitsSize};
 ghost use Rattle.siblings.specs.Rows.{keyCount, RowLeast};
-ghost use Rattle.search.specs.Limits.{vectorFor, Asked, upOf, limitAt, minimaSize, passesBy, Limited, Renewed, verdictBy, WalkAsked, NextChild};
+ghost use Rattle.search.specs.Limits.{vectorFor, Asked, upOf, limitAt, minimaSize, keyPlaces, passesBy, Limited, Renewed, verdictBy, WalkAsked, NextChild};
 ghost use Rattle.search.specs.Expand.{BoundsOf, Expanded};
 ghost use Rattle.search.specs.Values.{MinimaLow, Answered};
 
@@ -49,8 +51,8 @@ const LIMITS: usize = 2 * ONES;
 
 const MINIMA: usize = LIMITS + reach::LIMITS;
 
-// The places of the keys of all levels: four of 64 children and 8 rows.
-const KEYS: usize = 4 * 72;
+// The places of the keys of all levels: three of 256 children and 16 rows, or four of 64 and 8.
+pub const KEYS: usize = 3 * 272;
 
 // What a search is asked: a vector's M, Q and C, and its allowance (document 01's term).
 pub struct Task {
@@ -127,7 +129,7 @@ fn lower(least: &mut [u64], i: usize, d: u64)
 
 // A leaf's metric is taken into the least ones of its bits that are `side`.
 fn note(n: usize, label: u32, d: u64, side: bool, least: &mut [u64])
-    requires { ⌜ (n ≤ 24) × (n ≤ length (now least)) ⌝ }
+    requires { ⌜ (n ≤ mostBits) × (n ≤ length (now least)) ⌝ }
     ensures { λ _. ⌜ now (least .exit) ≡ lowered n side label d (now (least .entry)) ⌝ }
 {
     let mut i = 0;
@@ -142,7 +144,7 @@ fn note(n: usize, label: u32, d: u64, side: bool, least: &mut [u64])
 
 // The least metric at place i with the bit opposite to the best label's.
 fn opposite(bit: bool, minima: &[u64], i: usize) -> u64
-    requires { ⌜ (i < 24) × (length (now minima) ≡ minimaSize) ⌝ }
+    requires { ⌜ (i < mostBits) × (length (now minima) ≡ minimaSize) ⌝ }
     ensures { λ r. ⌜ r ≡ getD (cond bit (zerosOf (now (minima .entry))) (onesOf (now (minima .entry)))) i 0 ⌝ }
 {
     if bit { minima[i] } else { minima[ONES + i] }
@@ -172,7 +174,7 @@ fn limit_at(task: Task, numbers: &[i32], best: Best, minima: &[u64], i: usize) -
 fn limit_all(task: Task, numbers: &[i32], best: Best, minima: &mut [u64])
     requires { ⌜ Asked task (now numbers) × (best .metric ≤ above) × (length (now minima) ≡ minimaSize) ⌝ }
     ensures { λ _. ⌜ now (minima .exit)
-        ≡ take 48 (now (minima .entry))
+        ≡ take (2 * mostBits) (now (minima .entry))
         ++ filled (limitAt (vectorFor task (now (numbers .entry))) (takenIn (best .label) (best .metric) (now (minima .entry))))
         (task .streams * task .width) (limitsOf (now (minima .entry))) ⌝ }
 {
@@ -254,7 +256,7 @@ fn take_leaf(task: Task, leaf: Node, kept: Kept, numbers: &[i32], minima: &mut [
 
 // The node's bits with one more symbol before them.
 fn with_symbol(symbol: usize, bits: usize, node: u32) -> u32
-    requires { ⌜ (symbol < 64) × (bits ≤ 18) × (node < 2 ^ bits) ⌝ }
+    requires { ⌜ (symbol < 2 ^ mostWidth) × (bits ≤ mostBits) × (node < 2 ^ bits) ⌝ }
     ensures { λ r. ⌜ r ≡ symbol * 2 ^ bits + node ⌝ }
 {
     ((symbol as u32) << bits) | node
@@ -263,7 +265,7 @@ fn with_symbol(symbol: usize, bits: usize, node: u32) -> u32
 // The next child, the first of the smallest keys, which is then above every metric.
 fn next_child(task: Task, node: Node, keys: &mut [u64]) -> Node
     requires { ⌜ (task .width ≤ mostWidth) × RowLeast (task .width) (now keys) × (0 < node .level) × (node .level ≤ task .streams)
-        × ((task .streams - node .level) * task .width ≤ 18) × (node .bits < 2 ^ ((task .streams - node .level) * task .width)) ⌝ }
+        × ((task .streams - node .level) * task .width ≤ mostBits) × (node .bits < 2 ^ ((task .streams - node .level) * task .width)) ⌝ }
     ensures { λ r. ⌜ NextChild (task .streams) (task .width) (node .level) (node .bits) (now (keys .entry)) (now (keys .exit))
         (r .level) (r .bits) (r .partial) ⌝ }
 {
@@ -339,6 +341,7 @@ fn expand(
     task: Task,
     node: Node,
     kept: Kept,
+    points: &[i8; PLACES],
     numbers: &[i32],
     tables: &[i32; TABLE],
     limits: &[u64],
@@ -347,7 +350,7 @@ fn expand(
     requires { ⌜ VectorAsked (task .streams) (task .width) (now numbers)
         × Tabled (task .streams) (task .width) (now numbers) (now tables)
         × (0 < node .level) × (node .level ≤ task .streams) × (node .partial < 2 ^ 61) × (keyCount (task .width) ≤ length (now keys))
-        × (length (now limits) ≡ limitsSize) × (kept .best ≤ above) ⌝ }
+        × (length (now limits) ≡ limitsSize) × (kept .best ≤ above) × Points (task .width) (now points) ⌝ }
     ensures { λ r. ⌜ Expanded (task .streams) (task .width) (now (numbers .entry)) (node .level) (node .bits) (node .partial) (kept .label)
         (kept .best) (now (limits .entry)) (now (keys .entry)) (now (keys .exit)) r ⌝ }
 {
@@ -358,7 +361,15 @@ fn expand(
     };
     let bounds = bounds_of(task, node, kept, limits);
     let mut axes = [0u64; AXES];
-    if !metric::measure(shape, node, numbers, tables, bound_of(bounds), &mut axes) {
+    if !metric::measure(
+        shape,
+        node,
+        points,
+        numbers,
+        tables,
+        bound_of(bounds),
+        &mut axes,
+    ) {
         return false;
     }
     let own = metric::symbol_at(kept.label, q, (task.streams - node.level) * q);
@@ -383,6 +394,7 @@ fn walk(
     task: Task,
     node: Node,
     kept: Kept,
+    points: &[i8; PLACES],
     numbers: &[i32],
     tables: &[i32; TABLE],
     minima: &mut [u64],
@@ -391,7 +403,8 @@ fn walk(
     requires { ⌜ WalkAsked (task .streams) (task .width) (task .clip) (now numbers) (node .level) (node .bits) (node .partial)
         (takenIn (kept .label) (kept .best) (now minima)) (limitsOf (now minima))
         × (kept .stopped ≡ false) × Tabled (task .streams) (task .width) (now numbers) (now tables)
-        × (length (now minima) ≡ minimaSize) × (node .level * keyCount (task .width) ≤ length (now keys)) ⌝ }
+        × (length (now minima) ≡ minimaSize) × (node .level * keyCount (task .width) ≤ length (now keys))
+        × Points (task .width) (now points) ⌝ }
     ensures { λ r. ⌜ (keptOf (r .count) (r .stopped) (takenIn (r .label) (r .best) (now (minima .exit)))
         ≡ below (vectorFor task (now (numbers .entry))) (task .allowance) (node .level) (node .bits) (node .partial)
         (keptOf (kept .count) false (takenIn (kept .label) (kept .best) (now (minima .entry)))))
@@ -401,7 +414,16 @@ fn walk(
     if node.level == 0 {
         return take_leaf(task, node, kept, numbers, minima);
     }
-    if !expand(task, node, kept, numbers, tables, &minima[LIMITS..], keys) {
+    if !expand(
+        task,
+        node,
+        kept,
+        points,
+        numbers,
+        tables,
+        &minima[LIMITS..],
+        keys,
+    ) {
         return kept;
     }
     let n: usize = 1 << task.width;
@@ -418,6 +440,7 @@ fn walk(
                     task,
                     child,
                     counted(k),
+                    points,
                     numbers,
                     tables,
                     minima,
@@ -471,9 +494,17 @@ pub struct Found {
     pub label: u32,
 }
 
-// One vector's search under an allowance: its answer, the soft values at the front of `soft`.
-pub fn search_vector(task: Task, numbers: &[i32], soft: &mut [i32; 24]) -> Found
-    requires { ⌜ Asked task (now numbers) × (length (now soft) ≡ 24) ⌝ }
+// One vector's search under an allowance: its answer, the soft values at the front of `soft`. `points` are those of the constellation, and
+// `keys` is room to work in.
+pub fn search_vector(
+    task: Task,
+    points: &[i8; PLACES],
+    numbers: &[i32],
+    keys: &mut [u64],
+    soft: &mut [i32; 24],
+) -> Found
+    requires { ⌜ Asked task (now numbers) × (length (now soft) ≡ 24) × (keyPlaces ≤ length (now keys))
+        × Points (task .width) (now points) ⌝ }
     ensures { λ r. ⌜ Answered (vectorFor task (now (numbers .entry))) (task .allowance) (r .stopped) (r .count) (r .label)
         (now (soft .entry)) (now (soft .exit)) ⌝ }
 {
@@ -482,7 +513,7 @@ pub fn search_vector(task: Task, numbers: &[i32], soft: &mut [i32; 24]) -> Found
         width: task.width,
     };
     let mut tables = [0i32; TABLE];
-    metric::prepare(shape, numbers, &mut tables);
+    metric::prepare(shape, points, numbers, &mut tables);
     let mut minima = [ABOVE; MINIMA];
     let none = Best {
         label: 0,
@@ -500,8 +531,16 @@ pub fn search_vector(task: Task, numbers: &[i32], soft: &mut [i32; 24]) -> Found
         bits: 0,
         partial: 0,
     };
-    let mut keys = [0u64; KEYS];
-    let end = walk(task, root, start, numbers, &tables, &mut minima, &mut keys);
+    let end = walk(
+        task,
+        root,
+        start,
+        points,
+        numbers,
+        &tables,
+        &mut minima,
+        keys,
+    );
     write_soft(task, numbers, &minima, soft);
     Found {
         stopped: end.stopped,

@@ -6,6 +6,7 @@
 // D = 2, the allowance of the listing's second vector; C = 16,777,216, which is refused.
 use block::Read;
 use cases::Case;
+use constellation::PLACES;
 use libc::STDIN_FILENO;
 use libc::STDOUT_FILENO;
 use search::Found;
@@ -15,7 +16,8 @@ ghost use Prim.Native.Nat.{_<_, _≤_};
 ghost use lib.ListN.{length};
 ghost use Rattle.block.specs.Reading.{countAt};
 ghost use Rattle.block.specs.Contents.{vectorNumbers};
-ghost use Rattle.search.specs.Limits.{vectorAt};
+ghost use Rattle.constellation.specs.Points.{Points};
+ghost use Rattle.search.specs.Limits.{vectorAt, keyPlaces};
 ghost use Rattle.search.specs.Values.{Answered};
 ghost use Rattle.search.specs.Holds.{Holds};
 
@@ -73,9 +75,16 @@ fn count_at(numbers: &[i32; 3077], i: usize) -> usize
     block::count_of(numbers[i])
 }
 
-// Vector k of a record that was read, searched under the record's D.
-fn search_at(numbers: &[i32; 3077], k: usize, soft: &mut [i32; 24]) -> Found
-    requires { ⌜ Holds (now numbers) × (k < countAt 2 (now numbers)) × (length (now soft) ≡ 24) ⌝ }
+// Vector k of a record that was read, searched under the record's D. `points` are its constellation's, and `keys` is room to work in.
+fn search_at(
+    numbers: &[i32; 3077],
+    k: usize,
+    points: &[i8; PLACES],
+    keys: &mut [u64],
+    soft: &mut [i32; 24],
+) -> Found
+    requires { ⌜ Holds (now numbers) × (k < countAt 2 (now numbers)) × (length (now soft) ≡ 24)
+        × (keyPlaces ≤ length (now keys)) × Points (countAt 1 (now numbers)) (now points) ⌝ }
     ensures { λ r. ⌜ Answered (vectorAt (countAt 0 (now (numbers .entry))) (countAt 1 (now (numbers .entry)))
         (countAt 3 (now (numbers .entry))) (vectorNumbers (now (numbers .entry)) k)) (countAt 4 (now (numbers .entry)))
         (r .stopped) (r .count) (r .label) (now (soft .entry)) (now (soft .exit)) ⌝ }
@@ -94,19 +103,23 @@ fn search_at(numbers: &[i32; 3077], k: usize, soft: &mut [i32; 24]) -> Found
         allowance: share,
     };
     let list = &numbers[..];
-    search::search_vector(task, &list[start..end], soft)
+    search::search_vector(task, points, &list[start..end], keys, soft)
 }
 
 // Searches each vector of a record that was read, and writes its line.
 fn search_all(numbers: &[i32; 3077])
     requires { ⌜ Holds (now numbers) ⌝ }
 {
-    let bits = count_at(numbers, 0) * count_at(numbers, 1);
+    let q = count_at(numbers, 1);
+    let mut points = [0i8; PLACES];
+    constellation::fill(q, &mut points);
+    let mut keys = [0u64; search::KEYS];
+    let bits = count_at(numbers, 0) * q;
     let n = count_at(numbers, 2);
     let mut k = 0;
     while k < n {
         let mut soft = [0i32; 24];
-        let found = search_at(numbers, k, &mut soft);
+        let found = search_at(numbers, k, &points, &mut keys, &mut soft);
         print_found(found, &soft, bits);
         k += 1;
     }

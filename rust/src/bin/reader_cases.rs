@@ -2,8 +2,7 @@
 //!
 //! `reader_cases FOLDER` writes FOLDER/stdin and FOLDER/stdout; `reader_cases --check FOLDER` compares the files there with what
 //! it would write. The input has the cases one after another, each a two-byte length, low byte first, and that many bytes. The
-//! output has a line for each: `refused` and the row of document 01's table, or `accepted`, how many numbers there are and their
-//! checksum.
+//! output has a line for each: `refused` and the refusal's number, or `accepted`, how many numbers there are and their checksum.
 
 use reference::cases::{all, Case};
 use reference::record::read;

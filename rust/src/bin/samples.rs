@@ -3,7 +3,7 @@
 //! `samples ROOT` writes, below the repository's folder ROOT, samples/NAME.rec, samples/NAME.txt (document 01's listing of it) and what
 //! hosts/detect prints of the samples and of a record for each refusal: hosts/expected/samples and hosts/expected/refusals.
 //! `samples --check ROOT` compares the files there with what it would write. `samples --refusals FOLDER` writes the records for the
-//! refusals, 1.rec to 13.rec.
+//! refusals, 1.rec to 13.rec and 15.rec.
 
 use reference::listing::{host_lines, listing, reason};
 use reference::samples::{all, example, refusals};
@@ -45,7 +45,7 @@ fn stored_files() -> Vec<File> {
     files
 }
 
-/// What the host prints of a record for each refusal; the last is the example with a buffer that is a byte short.
+/// What the host prints of a record for each refusal; the last, 14, is the example with a buffer that is a byte short.
 fn refusal_lines() -> String {
     let lines = refused_files().iter().map(|(name, record)| host_lines(name, record)).collect::<String>();
     let room = 7 + 2 * (9 + 4 * 2);
@@ -54,7 +54,7 @@ fn refusal_lines() -> String {
 }
 
 fn refused_files() -> Vec<File> {
-    refusals().into_iter().enumerate().map(|(index, record)| (format!("{}.rec", index + 1), record)).collect()
+    refusals().into_iter().map(|(refusal, record)| (format!("{refusal}.rec"), record)).collect()
 }
 
 fn write(root: &Path, files: Vec<File>) -> Result<(), String> {

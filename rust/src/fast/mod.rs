@@ -9,7 +9,8 @@
 //! - Siblings end where the least metric left reaches the largest limit. A node is left at once where the distances to the nearest
 //!   amplitudes reach it, and a parent of leaves also where the axes' least parts show that no leaf passes.
 //!
-//! Streams count from 0 here; those of Q bits sit in a label as if there were four, stream 3's bits lowest (`Limits::shift`).
+//! Streams count from 0 here; those of Q bits sit in a label as if there were four, stream 3's bits lowest (`Limits::shift`): also those
+//! of eight bits, of which there are three at most.
 //! `A` and `B` are the numbers of labels of the real and the imaginary axis.
 
 mod axis;
@@ -37,7 +38,8 @@ pub fn detect(record: &[u8], reply: &mut [u8]) -> i64 {
         1 => answer_all::<2, 1>(&sizes, &numbers, reply),
         2 => answer_all::<2, 2>(&sizes, &numbers, reply),
         4 => answer_all::<4, 4>(&sizes, &numbers, reply),
-        _ => answer_all::<8, 8>(&sizes, &numbers, reply),
+        6 => answer_all::<8, 8>(&sizes, &numbers, reply),
+        _ => answer_all::<16, 16>(&sizes, &numbers, reply),
     };
     length as i64
 }

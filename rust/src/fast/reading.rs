@@ -1,6 +1,6 @@
 //! Reading a record: its sizes, and its vectors' numbers in record order.
 
-/// A row of document 01's table, 1 to 13.
+/// A refusal that a record can meet: 1 to 13, and 15.
 pub type Refusal = u32;
 
 pub struct Sizes {
@@ -40,11 +40,16 @@ pub fn read(record: &[u8]) -> Result<(Sizes, Vec<i32>), Refusal> {
 }
 
 impl Rest<'_> {
+    /// Once a record, and apart: the loops over the vectors then have the registers to themselves.
+    #[inline(never)]
     fn sizes(&mut self) -> Result<Sizes, Refusal> {
         let streams = self.plain(1, 4, 4)?;
         let bits = self.number()?;
-        if !matches!(bits, 1 | 2 | 4 | 6) {
+        if !matches!(bits, 1 | 2 | 4 | 6 | 8) {
             return Err(5);
+        }
+        if bits == 8 && streams == 4 {
+            return Err(15);
         }
         let vectors = self.plain(1, 64, 6)?;
         let clip = self.plain(0, 16_777_215, 7)?;

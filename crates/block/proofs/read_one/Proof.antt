@@ -36,7 +36,9 @@ returns c =
     rw (toZ-ofZ f, is (c .before .before)) (sym (one-taken _ _ _ _ _ (found (c .before .before .before .before)) (sym (test (c .before)) ∙ c .if1 .taken)))
 
 returns-2 : tie.Need-returns-2
-returns-2 c = rw (c .refusal-of .ensures) (sym (one-turned _ _ _ _ _ (found (c .before .before .before .before .before)) (sym (test (c .before .before)) ∙ c .before .if1 .left)))
+returns-2 c =
+    let f : SFits w32 (c .before .before .before .whole .result) = sfits-of (c .before .before .before .whole .ok) in
+    rw (c .refusal-of .ensures, toZ-ofZ f, is (c .before .before .before)) (sym (one-turned _ _ _ _ _ (found (c .before .before .before .before .before)) (sym (test (c .before .before)) ∙ c .before .if1 .left)))
 
 pub read-one-spec : {M : Type 1} → statement M
 read-one-spec =

@@ -9,11 +9,12 @@ use lib.ListN.{length, getD}
 use mir.Syntax.{w32}
 use mir.Val.{SFits}
 use mir.Facts.{toZ-ofZ}
+use Rattle.model.specs.Block.{mostStreams, mostWidth, mostBits, mostVectors}
 use Rattle.block.specs.Reading.{kindsOf, runsOf, partAt, countAt, got, into}
 use Rattle.block.specs.declared.Read.the-variants.{Ended}
 use Rattle.block.specs.declared.Part.the-variants.{Sizes}
-use Rattle.block.proofs.Parts.{sizesAt, sizes-are, size-at, sized-ended, sized-refused, all-fit, plain-most, width-most}
-use Rattle.block.proofs.Ranges.{between-plain}
+use Rattle.block.proofs.Parts.{sizesAt, sizes-are, size-at, sized-ended, sized-refused, all-fit, plain-most, width-most, label-most}
+use Rattle.block.proofs.Ranges.{between-plain, allowed-width}
 use Rattle.block.proofs.read_sized.Statement.{statement}
 use Rattle.block.proofs.read_sized.Tie as tie
 
@@ -54,10 +55,14 @@ read-vectors-requires c κs =
     let n = c .before .before .before .before .before .before .before in
     let s = n .before .before .before .before .before in
     let are = sizes-are _ _ _ _ _ _ (stored n) in
-    let m : c .before .count-of3 .result ≤ 4 = rw (streams (c .before)) (plain-most (between-plain 1 4 (s .args .m) (s .pre .0))) in
-    let q : c .before .before .before .before .count-of .result ≤ 6 = rw (width (c .before .before .before .before)) (width-most (are .width)) in
-    let k : c .before .before .count-of2 .result ≤ 64 = rw (vectors (c .before .before)) (plain-most (are .vectors)) in
-    ((m, q), all-fit _ _ _ m q k)
+    let z = getD (sizesOf n) 0 (pos 0) in
+    let m : c .before .count-of3 .result ≤ mostStreams = rw (streams (c .before)) (plain-most (between-plain 1 mostStreams (s .args .m) (s .pre .0))) in
+    let q : c .before .before .before .before .count-of .result ≤ mostWidth =
+    rw (width (c .before .before .before .before)) (width-most (allowed-width (s .args .m) z (are .width))) in
+    let l : c .before .count-of3 .result * c .before .before .before .before .count-of .result ≤ mostBits =
+    rw (streams (c .before), width (c .before .before .before .before)) (label-most (s .args .m) z (s .pre .0) (are .width)) in
+    let k : c .before .before .count-of2 .result ≤ mostVectors = rw (vectors (c .before .before)) (plain-most (are .vectors)) in
+    ((m, q, l), all-fit _ _ _ m l k)
 
 returns : tie.Need-returns
 returns c =

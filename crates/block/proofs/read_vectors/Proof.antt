@@ -4,6 +4,7 @@ use mathlib.Core.Path.{_≡_, refl, sym, _∙_, ap}
 use Prim.Native.Nat.{ℕ, _≤_, _<_, _-_, _+_, _*_}
 use native.Mathlib.Omega.{arith}
 use native.Mathlib.Nat.{mul-le-mul}
+use Rattle.model.specs.Block.{mostBits}
 use Rattle.block.specs.Reading.{vectorSize, vectorsAt, into}
 use Rattle.block.proofs.Runs.{vector-numbers}
 use Rattle.block.proofs.Parts.{rest-none, rest-room, rest-ended, rest-refused}
@@ -22,8 +23,8 @@ abbrev μ-loop : tie.MeasureT-loop
 squares : (c : tie.Start Inv-loop μ-loop) → c .args .m * c .args .m ≤ 16
 squares c = mul-le-mul (c .pre .0 .0) (c .pre .0 .0)
 
-priors : (c : tie.Start Inv-loop μ-loop) → c .args .m * c .args .q ≤ 24
-priors c = mul-le-mul (c .pre .0 .0) (c .pre .0 .1)
+priors : (c : tie.Start Inv-loop μ-loop) → c .args .m * c .args .q ≤ mostBits
+priors c = c .pre .0 .2
 
 room : (c : tie.In-loop Inv-loop μ-loop)
     → (c .before .before .before .args .n - c .before .loop .k) * vectorSize (c .before .before .before .args .m) (c .before .before .before .args .q)

@@ -19,7 +19,7 @@ vector-run-requires : tie.Need-vector-run-requires
 vector-run-requires c κs =
     let s = c .before .before .before in
     let small = rw (c .before .part2 .given .1) at (s .pre .0) in
-    (small .0, small .1, omega (arith, rw (c .before .part2 .given .1, vector-runs) at (s .pre .1)))
+    (small, omega (arith, rw (c .before .part2 .given .1, vector-runs) at (s .pre .1)))
 
 returns : tie.Need-returns
 unfolding runsOf

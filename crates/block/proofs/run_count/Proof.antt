@@ -3,12 +3,13 @@ use borrow.Author.Needs.{needs}
 use mathlib.Core.Path.{_≡_, sym, ap, _∙_}
 use Prim.Native.Nat.{_≤_}
 use native.Mathlib.Omega.{arith}
+use Rattle.model.specs.Block.{mostStreams}
 use Rattle.block.specs.Reading.{Small, runsOf}
 use Rattle.block.proofs.Runs.{vector-runs}
 use Rattle.block.proofs.run_count.Statement.{statement}
 use Rattle.block.proofs.run_count.Tie as tie
 
-streams : (c : tie.After-known-told) → c .before .part .given .0 .0 ≤ 4
+streams : (c : tie.After-known-told) → c .before .part .given .0 .0 ≤ mostStreams
 streams c = rw (c .before .part .given .1) at (c .before .before .before .pre) .0
 
 returns : tie.Need-returns

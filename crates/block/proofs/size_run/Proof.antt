@@ -8,7 +8,7 @@ use Rattle.block.proofs.size_run.Tie as tie
 
 returns : tie.Need-returns
 unfolding runsOf
-returns c = let e : c .before .args .i ≡ 0 = omega arith in rw e
+returns c = let e : c .before .args .i ≡ 0 = omega arith in let f = c .before .fits .m in rw (e, toZ-ofZ f)
 
 returns-2 : tie.Need-returns-2
 unfolding runsOf

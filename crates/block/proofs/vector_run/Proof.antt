@@ -1,8 +1,7 @@
--- Each exit is a place of the list of runs; m is at most 4 and q at most 6, so nothing wraps.
+-- Each exit is a place of the list of runs; m, q and the label's bits are small, so nothing wraps.
 use borrow.Author.Needs.{needs}
 use mathlib.Core.Path.{_≡_, sym}
 use native.Mathlib.Omega.{arith}
-use native.Mathlib.Nat.{mul-le-mul}
 use Rattle.block.proofs.Runs.{run-diagonal, run-right, run-received, run-prior}
 use Rattle.block.proofs.vector_run.Statement.{statement}
 use Rattle.block.proofs.vector_run.Tie as tie
@@ -20,5 +19,5 @@ vector-run-spec =
     (λ c. search needs)
     (λ c. search needs)
     (λ c. sym (run-received _ _ _ (c .if3 .taken)))
-    (λ c. omega (arith, mul-le-mul (c .before .before .pre .0) (c .before .before .pre .1)))
+    (λ c. omega arith)
     (λ c. let a = c .before .before .args in sym (run-prior (a .m) (a .q) (a .i) (omega arith))))

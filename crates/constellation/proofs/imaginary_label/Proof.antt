@@ -11,10 +11,10 @@ use Rattle.constellation.proofs.imaginary_label.Statement.{statement}
 use Rattle.constellation.proofs.imaginary_label.Tie as tie
 
 -- 1 shifted by h is 2^h
-power : (h : ℕ) → h ≤ 3 → 1 * 2 ^ h % 2 ^ 64 ≡ 2 ^ h
+power : (h : ℕ) → h ≤ 4 → 1 * 2 ^ h % 2 ^ 64 ≡ 2 ^ h
 power h k = shl-exact {a = 1} 1 h 64 (lit< tt) (omega arith) ∙ one-mul (2 ^ h)
 
-small : (c : tie.Start) → c .args .q / 2 ≤ 3
+small : (c : tie.Start) → c .args .q / 2 ≤ 4
 small c = omega (arith, c .pre)
 
 pub imaginary-label-spec : {M : Type 1} → statement M

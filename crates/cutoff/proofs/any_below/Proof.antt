@@ -1,4 +1,4 @@
--- Eight parts are n of them.
+-- Eight parts or sixteen are n of them.
 use borrow.Author.Needs.{needs}
 use native.Mathlib.Omega.{arith}
 use Rattle.cutoff.proofs.any_below.Statement.{statement}
@@ -10,5 +10,7 @@ any-below-spec =
     (tie.spec
     (λ c κs. search needs)
     (λ c e g h. c .any-among .ensures e g (omega arith))
+    (λ c κs. search needs)
+    (λ c e g h. c .any-among2 .ensures e g (omega arith))
     (λ c κs. search needs)
     (λ c. search needs))

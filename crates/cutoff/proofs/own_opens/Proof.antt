@@ -64,9 +64,8 @@ returns-2 : tie.Need-returns-2
 returns-2 c e =
     let s = c .before .before .before .before in
     let q = s .args .q in
-    let few : q - q / 2 ≤ 24 = omega (arith, s .pre .bits) in
     none-open q (s .args .axes .now) (s .args .entries .now) (s .args .own) (s .args .row) (s .args .column)
-    (rw (one-shifted (q - q / 2) few) at (c .before .before .any-below .ensures (c .before .if1 .left)))
+    (rw (one-shifted (q - q / 2) (omega (arith, s .pre .bits))) at (c .before .before .any-below .ensures (c .before .if1 .left)))
     (rw (masked s, columns s) at (c .any-below2 .ensures e))
 
 pub own-opens-spec : {M : Type 1} → statement M

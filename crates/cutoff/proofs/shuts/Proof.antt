@@ -32,16 +32,14 @@ least-real : (c : tie.After-least-part)
 least-real c =
     let s = c .before .before in
     let q = s .args .q in
-    let few : q - q / 2 ≤ 24 = omega (arith, s .pre .bits) in
-    rw (one-shifted (q - q / 2) few) at (c .least-part .ensures)
+    rw (one-shifted (q - q / 2) (omega (arith, s .pre .bits))) at (c .least-part .ensures)
 
 least-imaginary : (c : tie.After-least-part2)
     → let s = c .before .before .before in
     LeastOf (s .args .axes .now) span (2 ^ (s .args .q / 2)) (c .least-part2 .result)
 least-imaginary c =
     let s = c .before .before .before in
-    let few : s .args .q / 2 ≤ 24 = omega (arith, s .pre .bits) in
-    rw (one-shifted (s .args .q / 2) few) at (c .least-part2 .ensures)
+    rw (one-shifted (s .args .q / 2) (omega (arith, s .pre .bits))) at (c .least-part2 .ensures)
 
 -- The three numbers are small enough to add
 small : (c : tie.After-least-part2)

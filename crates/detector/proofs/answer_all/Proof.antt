@@ -1,24 +1,37 @@
 -- The invariant is that of the turns; the measure is the vectors that are left.
-use Prim.Native.Nat.{_-_}
-use mathlib.Core.Path.{refl, _∙_}
+use Prim.Native.Nat.{_-_, _≤_}
+use mathlib.Core.Path.{_≡_, refl, sym, _∙_}
 use native.Mathlib.Omega.{arith}
 use lib.ListN.{length}
+use borrow.Author.Needs.{needs}
+use Rattle.constellation.specs.Points.{Points}
+use Rattle.constellation.proofs.Tables.{points-of}
+use Rattle.search.specs.Limits.{keyPlaces}
 use Rattle.detector.proofs.Steps.{wrote-length, wrote-both}
-use Rattle.detector.proofs.Held.{few-streams, few-bits, few-vectors, room-is}
+use Rattle.detector.proofs.Held.{width-are, few-streams, few-bits, few-vectors, room-is}
 use Rattle.detector.proofs.Turns.{Answering, reply-is, answering-none, answering-asked, answering-more, answering-all}
 use Rattle.detector.proofs.answer_all.Statement.{statement}
 use Rattle.detector.proofs.answer_all.Tie as tie
 
 abbrev Inv-loop : tie.InvT-loop
-Inv-loop numbers h reply₀ soft₀ step₀ n k₀ reply soft step k =
-    Answering h numbers reply₀ (step₀ .at) n reply (length soft) (step .at) (step .spent) k
+Inv-loop numbers h reply₀ points keys₀ soft₀ step₀ n k₀ reply keys soft step k =
+    (length keys ≡ keyPlaces) × Answering h numbers reply₀ (step₀ .at) n reply (length soft) (step .at) (step .spent) k
 
 abbrev μ-loop : tie.MeasureT-loop
-μ-loop numbers h reply₀ soft₀ step₀ n k₀ reply soft step k = n - k
+μ-loop numbers h reply₀ points keys₀ soft₀ step₀ n k₀ reply keys soft step k = n - k
+
+fill-requires : tie.Need-fill-requires Inv-loop μ-loop
+fill-requires c κs =
+    let p = c .before .before .pre in
+    (rw (width-are (p .headed)) (p .held .ranged .width), refl)
+
+-- The points of the record's constellation
+pointed : (c : tie.After-fill Inv-loop μ-loop) → Points (c .before .before .before .args .h .width) (c .fill .last .1 .0)
+pointed c = points-of refl (c .fill .ensures)
 
 write-head-requires : tie.Need-write-head-requires Inv-loop μ-loop
 write-head-requires c κs =
-    let p = c .before .before .pre in
+    let p = c .before .before .before .before .pre in
     let m = few-streams (p .held) (p .headed) in
     let q = few-bits (p .held) (p .headed) in
     let n = few-vectors (p .held) (p .headed) in
@@ -27,38 +40,40 @@ write-head-requires c κs =
 loop-holds : tie.Need-loop-holds Inv-loop μ-loop
 loop-holds c =
     let w = c .before .before in
-    let p = w .before .before .before .pre in
-    answering-none (p .held) (p .headed) refl refl (w .write-head .ensures .0) (w .write-head .ensures .1) (p .buffer)
+    let p = w .before .before .before .before .before .pre in
+    (refl, answering-none (p .held) (p .headed) refl refl (w .write-head .ensures .0) (w .write-head .ensures .1) (p .buffer))
 
 answer-one-requires : tie.Need-answer-one-requires Inv-loop μ-loop
 answer-one-requires c κs =
-    let t = c .before .before in
+    let t = c .before .before .before .before in
     let l = t .before in
-    let p = l .before .before .before .before .before .before .pre in
-    answering-asked (p .held) (p .headed) (l .loop .inv) (t .loop-test .taken)
+    let p = l .before .before .before .before .before .before .before .before .pre in
+    answering-asked (p .held) (p .headed) (l .loop .inv .1) (pointed (l .before .before .before .before .before)) (omega (arith, l .loop .inv .0)) (t .loop-test .taken)
 
 loop-again : tie.Need-loop-again Inv-loop μ-loop
 loop-again c =
-    let o = c .before .before in
-    let t = o .before .before .before in
+    let o = c .before .before .before in
+    let t = o .before .before .before .before .before in
     let l = t .before in
-    let p = l .before .before .before .before .before .before .pre in
+    let p = l .before .before .before .before .before .before .before .before .pre in
     let e = o .answer-one .ensures in
-    answering-more (p .held) (p .headed) (l .loop .inv) (t .loop-test .taken) (e .2) (e .0) (e .1)
+    let work : keyPlaces ≤ length (l .loop .keys) = omega (arith, l .loop .inv .0) in
+    let asked = answering-asked (p .held) (p .headed) (l .loop .inv .1) (pointed (l .before .before .before .before .before)) work (t .loop-test .taken) in
+    (o .answer-one .kept .1 .1 .1 .1 .1 .0 ∙ l .loop .inv .0, answering-more (p .held) (p .headed) (l .loop .inv .1) asked (t .loop-test .taken) (e .2) (e .0) (e .1))
 
 same-length : tie.Need-same-length Inv-loop μ-loop
 same-length c =
     let l = c .before in
     let w = l .before .before .before in
-    l .loop .inv .same ∙ wrote-length (w .write-head .ensures .1)
+    l .loop .inv .1 .same ∙ wrote-length (w .write-head .ensures .1)
 
 returns : tie.Need-returns Inv-loop μ-loop
 returns c =
     let l = c .before in
     let w = l .before .before .before in
-    let p = w .before .before .before .pre in
+    let p = w .before .before .before .before .before .pre in
     wrote-both (reply-is (p .held) (p .headed)) (w .write-head .ensures .1)
-    (answering-all (p .held) (p .headed) (l .loop .inv) (c .loop-test .left))
+    (answering-all (p .held) (p .headed) (l .loop .inv .1) (c .loop-test .left))
 
 pub answer-all-spec : {M : Type 1} → statement M
 answer-all-spec =
@@ -66,11 +81,13 @@ answer-all-spec =
     (tie.spec
     Inv-loop
     μ-loop
+    fill-requires
     write-head-requires
     loop-holds
+    (λ c. sym (c .before .before .before .loop .inv .0))
     answer-one-requires
-    (λ c. omega arith)
-    (λ c. omega arith)
+    (λ c. omega (arith, c .before .before .before .before .before .before .before .before .loop-test .taken))
+    (λ c. omega (arith, c .before .before .before .before .before .before .before .before .loop-test .taken))
     loop-again
     same-length
     returns)

@@ -11,7 +11,7 @@ use Rattle.detector.proofs.answer_one.Tie as tie
 
 allowance-requires : tie.Need-allowance-requires
 allowance-requires c κs =
-    let p = c .before .pre in
+    let p = c .before .before .pre in
     let s = p .search in
     record {
       inside = s .inside;
@@ -23,30 +23,30 @@ allowance-requires c κs =
 
 write-found-requires : tie.Need-write-found-requires
 write-found-requires c κs =
-    let f = c .before in
-    let a = f .before .before in
-    let s = a .before .before in
+    let f = c .before .before .before in
+    let a = f .before .before .before in
+    let s = a .before .before .before in
     found-asked (s .pre .search) (s .args .step .spent) (a .allowance .ensures) (f .search-one .ensures) (s .pre .buffer)
 
 mul-write-soft : tie.Need-mul-write-soft
 mul-write-soft c =
-    let p = c .before .before .before .before .before .before .before .before .before .before .before .pre .search in
+    let p = c .before .before .before .before .before .before .before .before .before .before .before .before .before .before .before .pre .search in
     omega (arith, few-soft (p .held) (p .headed))
 
 write-soft-requires : tie.Need-write-soft-requires
 write-soft-requires c κs =
     let w = c .before .before .before .before .before in
-    let f = w .before .before in
-    let a = f .before .before in
-    let s = a .before .before in
+    let f = w .before .before .before .before in
+    let a = f .before .before .before in
+    let s = a .before .before .before in
     soft-asked (s .pre .search) (s .args .step .spent) (a .allowance .ensures) (f .search-one .ensures) _ (s .pre .buffer)
     (wrote-length (w .write-found .ensures .1)) (w .write-found .ensures .0)
 
 add-spent : tie.Need-add-spent
 add-spent c =
-    let f = c .before .before .before .before .before .before .before .before .before .before .before in
-    let a = f .before .before in
-    let s = a .before .before in
+    let f = c .before .before .before .before .before .before .before .before .before .before .before .before .before in
+    let a = f .before .before .before in
+    let s = a .before .before .before in
     let p = s .pre .search in
     let spent = s .args .step .spent in
     omega (
@@ -60,9 +60,9 @@ returns : tie.Need-returns
 returns c =
     let u = c .before .before .before in
     let w = u .before .before .before .before .before .before in
-    let f = w .before .before in
-    let a = f .before .before in
-    let s = a .before .before in
+    let f = w .before .before .before .before in
+    let a = f .before .before .before in
+    let s = a .before .before .before in
     let p = s .pre .search in
     let spent = s .args .step .spent in
     let e = a .allowance .ensures in
@@ -77,10 +77,11 @@ answer-one-spec =
     tie.close
     (tie.spec
     allowance-requires
-    (λ c κs. c .before .before .before .pre .search)
+    (λ c κs. c .before .before .before .before .before .pre .search)
     write-found-requires
     mul-write-soft
     write-soft-requires
     add-spent
+    (λ c. search needs)
     (λ c. search needs)
     returns)

@@ -3,14 +3,15 @@ use Prim.Native.Nat.{_+_, _*_, _≤_}
 use native.Mathlib.Nat.{mul-le-mul}
 use native.Mathlib.Omega.{arith}
 use borrow.Author.Needs.{needs}
+use Rattle.model.specs.Block.{mostStreams, mostWidth, mostVectors}
 use Rattle.detector.proofs.room.Statement.{statement}
 use Rattle.detector.proofs.room.Tie as tie
 
-answer-few : (c : tie.Start) → 4 * c .args .m * c .args .q ≤ 96
-answer-few c = let four : 4 * c .args .m ≤ 16 = omega (arith, c .pre .0) in mul-le-mul four (c .pre .1)
+answer-few : (c : tie.Start) → 4 * c .args .m * c .args .q ≤ 4 * mostStreams * mostWidth
+answer-few c = let four : 4 * c .args .m ≤ 4 * mostStreams = omega (arith, c .pre .0) in mul-le-mul four (c .pre .1)
 
-all-few : (c : tie.Start) → c .args .n * (9 + 4 * c .args .m * c .args .q) ≤ 6720
-all-few c = let each : 9 + 4 * c .args .m * c .args .q ≤ 105 = omega (arith, answer-few c) in mul-le-mul (c .pre .2) each
+all-few : (c : tie.Start) → c .args .n * (9 + 4 * c .args .m * c .args .q) ≤ mostVectors * (9 + 4 * mostStreams * mostWidth)
+all-few c = let each : 9 + 4 * c .args .m * c .args .q ≤ 9 + 4 * mostStreams * mostWidth = omega (arith, answer-few c) in mul-le-mul (c .pre .2) each
 
 pub room-spec : {M : Type 1} → statement M
 room-spec =

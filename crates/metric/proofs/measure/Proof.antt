@@ -12,7 +12,7 @@ use mir.Syntax.{w64}
 use mir.Val.{SFits}
 use mir.Facts.{toZ-ofZ, fits-natAbs}
 use Rattle.integers.proofs.Fits.{sfits-abs}
-use Rattle.constellation.specs.Axis.{complexOf}
+use Rattle.constellation.specs.Points.{complexOf}
 use Rattle.metric.specs.Rows.{rowStart}
 use Rattle.metric.specs.Tables.Axis.{real, imaginary}
 use Rattle.metric.proofs.Rows.{row-end, square-few, diagonal-within}

@@ -1,25 +1,35 @@
 -- The invariant: the axes of the rows so far are in the table.
 use borrow.Author.Needs.{needs, sfits-of}
-use mathlib.Core.Path.{_≡_}
-use Prim.Native.Nat.{_+_, _-_, _*_, _≤_}
+use mathlib.Core.Path.{_≡_, ap}
+use Prim.Native.Nat.{ℕ, _+_, _-_, _*_, _/_, _%_, _^_, _≤_}
 use native.Mathlib.Nat.{not-suc-le-zero}
 use native.Mathlib.Omega.{arith}
+use lib.Pow.{pow-mono}
 use mir.Syntax.{w64}
 use mir.Val.{SFits}
 use mir.Facts.{toZ-ofZ}
+use Rattle.metric.specs.Parts.{axisWidth}
 use Rattle.metric.specs.Rows.{rowStart, priorStart}
 use Rattle.metric.specs.Tables.{TabledTo}
 use Rattle.metric.specs.Tables.Axis.{real, imaginary}
 use Rattle.metric.proofs.Rows.{row-end, square-few, priors-few}
-use Rattle.metric.proofs.Tables.{entries-asked, tabled-more}
+use Rattle.metric.proofs.Shifts.{one-shifted}
+use Rattle.metric.proofs.Tables.{real-amplitudes, imaginary-amplitudes, entries-asked, tabled-more}
 use Rattle.metric.proofs.prepare.Statement.{statement}
 use Rattle.metric.proofs.prepare.Tie as tie
 
 abbrev Inv-loop : tie.InvT-loop
-Inv-loop numbers tables₀ m q w row₀ tables row = (row ≤ m) × TabledTo m q numbers tables row
+Inv-loop points numbers tables₀ m q first second row₀ tables row = (row ≤ m) × TabledTo m q numbers tables row
 
 abbrev μ-loop : tie.MeasureT-loop
-μ-loop numbers tables₀ m q w row₀ tables row = m - row
+μ-loop points numbers tables₀ m q first second row₀ tables row = m - row
+
+-- How far the real axis's amplitudes are apart
+step : (c : tie.Start Inv-loop μ-loop) → 1 * 2 ^ (c .args .shape .width / 2) % 2 ^ 64 ≡ 2 ^ (c .args .shape .width / 2)
+step c = one-shifted (c .args .shape .width / 2) (omega (arith, c .pre .0 .bits))
+
+half : (c : tie.Start Inv-loop μ-loop) → c .args .shape .width / 2 ≤ axisWidth
+half c = omega (arith, c .pre .0 .bits)
 
 loop-holds : tie.Need-loop-holds Inv-loop μ-loop
 loop-holds c = (omega arith, record { size = c .pre .1; axes = λ i h. absurd (not-suc-le-zero h) })
@@ -49,27 +59,31 @@ real-asked : tie.Need-fill-entries-requires Inv-loop μ-loop
 real-asked c κs =
     let i = c .before .before in
     let s = i .before .before in
-    let f = diagonal-fits (c .before) in
-    simp toZ-ofZ (entries-asked (s .pre .0) (i .before .loop .row) (i .loop-test .taken) real _ (c .before .element .ensures))
+    let f = diagonal-fits (c .before) in (
+      real-amplitudes (s .pre .2) (s .pre .0 .bits) _ (ap (λ (n : ℕ). 2 * n) (step s)),
+      simp toZ-ofZ (entries-asked (s .pre .0) (i .before .loop .row) (i .loop-test .taken) real _ (c .before .element .ensures)),
+    )
 
 imaginary-asked : tie.Need-fill-entries-requires-2 Inv-loop μ-loop
 imaginary-asked c κs =
-    let e = c .before .before .before in
+    let e = c .before .before .before .before in
     let i = e .before in
     let s = i .before .before in
-    let f = diagonal-fits e in
-    simp toZ-ofZ (entries-asked (s .pre .0) (i .before .loop .row) (i .loop-test .taken) imaginary _ (e .element .ensures))
+    let f = diagonal-fits e in (
+      imaginary-amplitudes (s .pre .2) (s .pre .0 .bits),
+      simp toZ-ofZ (entries-asked (s .pre .0) (i .before .loop .row) (i .loop-test .taken) imaginary _ (e .element .ensures)),
+    )
 
 loop-again : tie.Need-loop-again Inv-loop μ-loop
 loop-again c =
-    let e = c .before .before .before .before in
+    let e = c .before .before .before .before .before in
     let i = e .before in
     let s = i .before .before in
     let f = diagonal-fits e in (
       omega (arith, i .loop-test .taken),
       tabled-more (s .pre .0 .bits) (omega (arith, few i .0, i .loop-test .taken)) (i .before .loop .inv .1) (e .element .result) _ _
           (e .element .ensures)
-          (simp toZ-ofZ at (c .before .before .fill-entries .ensures))
+          (simp toZ-ofZ at (c .before .before .before .fill-entries .ensures))
           (simp toZ-ofZ at (c .fill-entries2 .ensures)),
     )
 
@@ -84,6 +98,8 @@ prepare-spec =
     (tie.spec
     Inv-loop
     μ-loop
+    (λ c. omega (arith, c .pre .0 .bits))
+    (λ c. omega (arith, step c, pow-mono (half c)))
     (λ c. omega arith)
     loop-holds
     (λ c. omega (arith, few c .0))
@@ -98,11 +114,11 @@ prepare-spec =
     (λ c. search needs)
     (λ c. omega (arith, few (c .before) .0, c .before .loop-test .taken))
     real-asked
-    (λ c. let i = c .before .before .before in omega (arith, few i .2, few i .3))
+    (λ c. let i = c .before .before .before .before in omega (arith, few i .2, few i .3))
     (λ c. search needs)
-    (λ c. let i = c .before .before .before in omega (arith, few i .0, i .loop-test .taken))
+    (λ c. let i = c .before .before .before .before in omega (arith, few i .0, i .loop-test .taken))
     imaginary-asked
-    (λ c. let i = c .before .before .before .before .before in omega (arith, few i .0, i .loop-test .taken))
-    (λ c. omega (arith, c .before .before .before .before .before .loop-test .taken))
+    (λ c. let i = c .before .before .before .before .before .before in omega (arith, few i .0, i .loop-test .taken))
+    (λ c. omega (arith, c .before .before .before .before .before .before .loop-test .taken))
     loop-again
     returns)

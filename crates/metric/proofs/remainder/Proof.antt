@@ -6,31 +6,32 @@ use Prim.Native.Nat.{ℕ, _+_, _-_, _*_, _≤_, _<_, _^_}
 use native.Mathlib.Nat.{mod-lt, mul-le-mul}
 use native.Mathlib.Omega.{arith}
 use lib.IntN.{natAbs}
-use lib.Pow.{pow-pos}
+use lib.Pow.{pow-mono, pow-pos}
 use mir.Syntax.{w64}
 use mir.Val.{SFits, toZ}
 use mir.Facts.{toZ-ofZ}
 use Rattle.integers.proofs.Fits.{sfits-abs}
 use Rattle.integers.proofs.Magnitudes.{natAbs-sub}
-use Rattle.model.specs.Constellation.{_⊖_}
+use Rattle.model.specs.Constellation.{Complex, _⊖_, _⊗_, point, bitsOf}
 use Rattle.model.specs.Block.{mostWidth, mostReceived}
-use Rattle.constellation.specs.Axis.{complexOf}
+use Rattle.constellation.specs.Points.{complexOf}
+use Rattle.block.specs.Contents.{complexAt}
 use Rattle.metric.specs.Rows.{rowStart}
 use Rattle.metric.proofs.Rows.{row-end, square-few, entry-within, received-within}
-use Rattle.metric.proofs.Remainders.{remains, rest-of, rest-start, rest-turn, rest-done, mostTerm, term-few}
+use Rattle.metric.proofs.Remainders.{point-parts, remains, rest-of, rest-start, rest-turn, rest-done, mostTerm, term-few}
 use Rattle.metric.proofs.remainder.Statement.{statement}
 use Rattle.metric.proofs.remainder.Tie as tie
 
 -- Signed locals of a loop are their bits
 abbrev Inv-loop : tie.InvT-loop
-Inv-loop numbers m q level node start later received re₀ im₀ t₀ re im t =
+Inv-loop points numbers m q level node start later received re₀ im₀ t₀ re im t =
     (t ≤ m - (level + 1))
     × (natAbs (toZ w64 re) ≤ mostReceived + t * mostTerm)
     × (natAbs (toZ w64 im) ≤ mostReceived + t * mostTerm)
     × (remains m q numbers level node ≡ complexOf (toZ w64 re) (toZ w64 im) ⊖ rest-of m q numbers level node t)
 
 abbrev μ-loop : tie.MeasureT-loop
-μ-loop numbers m q level node start later received re₀ im₀ t₀ re im t = m - (level + 1) - t
+μ-loop points numbers m q level node start later received re₀ im₀ t₀ re im t = m - (level + 1) - t
 
 sizes : (c : tie.Start Inv-loop μ-loop)
     → (c .args .m * c .args .m ≤ 16) × (rowStart (c .args .m) (c .args .level) + 1 ≤ 16) × (c .args .m ≤ 4)
@@ -61,25 +62,46 @@ place-few c =
     let few : s .args .m - (s .args .level + 1) - c .before .loop .t - 1 ≤ 3 = omega (arith, s .pre .0 .streams) in
     omega (arith, mul-le-mul few (s .pre .0 .bits))
 
+-- A turn's symbol
+below : (c : tie.After-symbol-at Inv-loop μ-loop) → c .symbol-at .result < 2 ^ c .before .before .before .before .before .args .q
+below c =
+    let s = c .before .before .before .before .before in
+    subst (λ (x : ℕ). x < 2 ^ s .args .q) (sym (c .symbol-at .ensures)) (mod-lt _ (pow-pos (s .args .q)))
+
 term-requires : tie.Need-term-requires Inv-loop μ-loop
 term-requires c κs =
     let s = c .before .before .before .before .before in
     let t = c .before .before .loop .t in
     let h = c .before .loop-test .taken in
     let e = entry-within (s .pre .0) (s .args .level) (s .pre .1) t (omega (arith, h)) in
+    let p = point-parts (s .args .q) (c .symbol-at .result) (s .pre .0 .bits) _ _ (s .pre .2 .each (c .symbol-at .result) (below c)) in
     record {
+      table = s .pre .2 .size;
+      below = omega (arith, below c, pow-mono (s .pre .0 .bits));
+      point-re = p .0;
+      point-im = p .1;
       room = omega (arith, h, row-end (s .args .m) (s .args .level) (s .pre .1), s .pre .0 .room);
-      bits = s .pre .0 .bits;
-      below = subst (λ (x : ℕ). x < 2 ^ s .args .q) (sym (c .symbol-at .ensures)) (mod-lt _ (pow-pos (s .args .q)));
       real = e .re;
       imaginary = e .im;
     }
+
+-- Its term, with the point by the Gray rule
+product : (c : tie.After-term Inv-loop μ-loop)
+    → let s = c .before .before .before .before .before .before in
+    complexOf (c .term .result .re) (c .term .result .im)
+    ≡ complexAt (s .args .numbers .now) (rowStart (s .args .m) (s .args .level) + 1 + 2 * c .before .before .before .loop .t)
+    ⊗ point (bitsOf (s .args .q) (c .before .symbol-at .result))
+product c =
+    let s = c .before .before .before .before .before .before in
+    c .term .ensures
+    ∙ ap (λ (z : Complex). complexAt (s .args .numbers .now) (rowStart (s .args .m) (s .args .level) + 1 + 2 * c .before .before .before .loop .t) ⊗ z)
+    (s .pre .2 .each (c .before .symbol-at .result) (below (c .before)))
 
 few : (c : tie.After-term Inv-loop μ-loop) → (natAbs (c .term .result .re) ≤ mostTerm) × (natAbs (c .term .result .im) ≤ mostTerm)
 few c =
     let s = c .before .before .before .before .before .before in
     let l = c .before .before .before in
-    term-few (s .pre .0) (s .args .level) (l .loop .t) _ (s .pre .1) (c .before .before .loop-test .taken) _ _ (c .term .ensures)
+    term-few (s .pre .0) (s .args .level) (l .loop .t) _ (s .pre .1) (c .before .before .loop-test .taken) _ _ (product c)
 
 re-fits : (c : tie.After-term Inv-loop μ-loop) → SFits w64 (c .term .result .re)
 re-fits c = sfits-abs _ (omega (arith, few c .0))
@@ -105,7 +127,7 @@ loop-again c =
       omega (arith, ap natAbs d, natAbs-sub (toZ w64 (l .loop .im)) (w .term .result .im), few w .1, l .loop .inv .2),
       rest-turn (s .args .m) (s .args .q) (s .args .numbers .now) (s .args .level) (s .args .node) (l .loop .t)
           (toZ w64 (l .loop .re)) (toZ w64 (l .loop .im)) (l .loop .inv .3) h (w .term .result .re) (w .term .result .im) _
-          (w .before .symbol-at .ensures) (w .term .ensures) _ _ a d,
+          (w .before .symbol-at .ensures) (product w) _ _ a d,
     )
 
 returns : tie.Need-returns Inv-loop μ-loop

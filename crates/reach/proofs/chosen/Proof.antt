@@ -7,6 +7,7 @@ use native.Mathlib.Nat.{mod-lt, mul-le-mul}
 use native.Mathlib.Numerals.{add-one}
 use native.Mathlib.Omega.{arith}
 use lib.Pow.{pow-pos}
+use Rattle.model.specs.Block.{mostStreams, mostWidth}
 use Rattle.pruning.specs.Reach.{widestOf}
 use Rattle.pruning.proofs.Reach.{widest-more}
 use Rattle.reach.specs.Reach.{streamReach, symbolOf, chosenReach}
@@ -27,11 +28,13 @@ loop-holds c =
     let e : s .args .level - s .args .level ≡ 0 = omega arith in
     (omega arith, s .pre .2, rw e)
 
--- The bits after the symbol of a turn are at most 18
-few : (c : tie.In-loop Inv-loop μ-loop) → let a = c .before .before .before .args in (a .m - (c .before .loop .j + 1)) * a .q ≤ 3 * 6
+-- The bits after the symbol of a turn are few enough for a shift
+few : (c : tie.In-loop Inv-loop μ-loop)
+    → let a = c .before .before .before .args in
+    (a .m - (c .before .loop .j + 1)) * a .q ≤ mostStreams * mostWidth
 few c =
     let s = c .before .before .before in
-    let h : s .args .m - (c .before .loop .j + 1) ≤ 3 = omega (arith, s .pre .0) in
+    let h : s .args .m - (c .before .loop .j + 1) ≤ mostStreams = omega (arith, s .pre .0) in
     mul-le-mul h (s .pre .1)
 
 stream-reach-requires : tie.Need-stream-reach-requires Inv-loop μ-loop

@@ -2,12 +2,12 @@
 -- first place behind the limits, whatever that was.
 use mathlib.Core.Path.{_≡_, refl, sym, subst}
 use mathlib.Core.List.{List}
-use Prim.Native.Nat.{ℕ, _-_, _≤_, _<_}
+use Prim.Native.Nat.{ℕ, _+_, _-_, _*_, _≤_, _<_}
 use native.Mathlib.Omega.{arith}
 use lib.ListN.{length, set}
-use Rattle.pruning.specs.Program.{mostBits}
+use Rattle.model.specs.Block.{mostStreams, mostBits}
 use Rattle.reach.specs.Reach.{limitIn, limitsSize, Reaches}
-use Rattle.reach.proofs.Streams.{Filling, reaches-none, reaches-more}
+use Rattle.reach.proofs.Streams.{bits-few, Filling, reaches-none, reaches-more}
 use Rattle.reach.proofs.fill.Statement.{statement}
 use Rattle.reach.proofs.fill.Tie as tie
 
@@ -26,10 +26,18 @@ loop-holds c =
 so-far : (c : tie.At-loop Inv-loop μ-loop)
     → let a = c .before .before .args in
     Filling (a .q) (a .limits .now) (c .loop .limits) (c .loop .j)
-so-far c = let s = c .before .before in c .loop .inv .1 (s .args .limits .now) refl (s .pre .2)
+so-far c = let s = c .before .before in c .loop .inv .1 (s .args .limits .now) refl (s .pre .3)
 
-inside : (c : tie.In-loop Inv-loop μ-loop) → c .before .loop .j < 4
+inside : (c : tie.In-loop Inv-loop μ-loop) → c .before .loop .j < mostStreams
 inside c = omega (arith, c .before .before .before .pre .0, c .loop-test .taken)
+
+-- The stream's bits are within the label's
+label : (c : tie.In-loop Inv-loop μ-loop)
+    → let q = c .before .before .before .args .q in
+    c .before .loop .j * q + q ≤ mostBits
+label c =
+    let s = c .before .before .before in
+    bits-few (s .args .q) (c .before .loop .j) (s .args .m) (c .loop-test .taken) (s .pre .2)
 
 loop-again : tie.Need-loop-again Inv-loop μ-loop
 loop-again c =
@@ -37,7 +45,7 @@ loop-again c =
     let l = i .before in
     let p = l .before .before .pre in (
       omega (arith, i .loop-test .taken),
-      λ old e room. reaches-more old (p .1) (inside i) (l .loop .inv .1 old e room) (c .before .before .fill-stream .ensures),
+      λ old e room. reaches-more old (p .1) (label i) (l .loop .inv .1 old e room) (c .before .before .fill-stream .ensures),
     )
 
 returns : tie.Need-returns Inv-loop μ-loop
@@ -55,9 +63,9 @@ fill-spec =
     μ-loop
     (λ c. omega arith)
     loop-holds
-    (λ c κs. (c .before .before .before .before .pre .1, inside (c .before), so-far (c .before .before) .made .size))
+    (λ c κs. (c .before .before .before .before .pre .1, inside (c .before), label (c .before), so-far (c .before .before) .made .size))
     (λ c. omega (arith, inside (c .before .before .before .before)))
     (λ c. omega (arith, c .before .before .before .before .loop-test .taken))
     loop-again
-    (λ c. omega (arith, so-far (c .before) .made .size, c .before .before .before .pre .2))
+    (λ c. omega (arith, so-far (c .before) .made .size, c .before .before .before .pre .3))
     returns)

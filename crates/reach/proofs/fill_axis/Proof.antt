@@ -7,6 +7,7 @@ use native.Mathlib.Nat.{pow-suc}
 use native.Mathlib.Omega.{arith}
 use lib.ListN.{length, set}
 use lib.Pow.{pow-pos, pow-mono}
+use Rattle.metric.specs.Parts.{axisWidth}
 use Rattle.metric.proofs.Shifts.{one-shifted}
 use Rattle.reach.specs.Reach.{AxisFilled}
 use Rattle.reach.proofs.Axes.{axis-none, axis-more}
@@ -45,7 +46,7 @@ limit-inside c =
     let p = c .before .before .before .pre in
     omega (arith, so-far (c .before) .size, p .1, p .2, p .3, pow-pos (c .before .before .before .args .w), c .loop-test .taken)
 
-turns-few : (c : tie.In-loop Inv-loop μ-loop) → c .before .loop .b < 24
+turns-few : (c : tie.In-loop Inv-loop μ-loop) → c .before .loop .b < axisWidth
 turns-few c = omega (arith, c .before .before .before .pre .0, c .loop-test .taken)
 
 double-requires : tie.Need-double-requires Inv-loop μ-loop

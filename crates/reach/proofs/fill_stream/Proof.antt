@@ -1,28 +1,24 @@
 -- The two axes, then the widest limit of all bits of the stream, beside that of the streams before it.
 use borrow.Author.Needs.{needs}
 use mathlib.Core.Path.{_≡_, _∙_, ap}
-use Prim.Native.Nat.{ℕ, _+_, _-_, _*_, _%_, _^_, _≤_, max}
+use Prim.Native.Nat.{ℕ, _-_, _*_, _%_, _^_, max}
 use native.Mathlib.Omega.{arith}
 use lib.ListN.{length, getD}
 use lib.Pow.{pow-pos, pow-mono, ones-lt}
 use Rattle.metric.specs.Tables.Axis.{real, imaginary}
 use Rattle.metric.proofs.Tables.{axis-few}
 use Rattle.metric.proofs.Shifts.{one-shifted}
-use Rattle.pruning.specs.Program.{mostBits}
 use Rattle.reach.specs.Reach.{limitsSize, firstPlace, streamReach}
-use Rattle.reach.proofs.Streams.{bits-few, stream-filled}
+use Rattle.reach.proofs.Streams.{stream-filled}
 use Rattle.reach.proofs.fill_stream.Statement.{statement}
 use Rattle.reach.proofs.fill_stream.Tie as tie
-
-few : (c : tie.After-slice-known) → c .before .args .j * c .before .args .q + c .before .args .q ≤ mostBits
-few c = bits-few (c .before .args .q) (c .before .args .j) (c .before .pre .0) (c .before .pre .1)
 
 fill-axis-requires : tie.Need-fill-axis-requires
 fill-axis-requires c κs =
     let s = c .before .before in
     let q = s .args .q in
     let h = axis-few q real (s .pre .0) in
-    (h, omega (arith, few (c .before)), omega arith, omega (arith, s .pre .1, s .pre .2, pow-mono h))
+    (h, omega (arith, s .pre .2), omega arith, omega (arith, s .pre .1, s .pre .3, pow-mono h))
 
 fill-axis-requires-2 : tie.Need-fill-axis-requires-2
 fill-axis-requires-2 c κs =
@@ -31,16 +27,16 @@ fill-axis-requires-2 c κs =
     let q = s .args .q in
     let h = axis-few q imaginary (s .pre .0) in (
       h,
-      omega (arith, few (f .before .before)),
+      omega (arith, s .pre .2),
       omega arith,
-      omega (arith, s .pre .1, s .pre .2, f .fill-axis .ensures .size, pow-mono h),
+      omega (arith, s .pre .1, s .pre .3, f .fill-axis .ensures .size, pow-mono h),
     )
 
 -- The array after both
 size : (c : tie.After-fill-axis2) → length (c .fill-axis2 .last .0) ≡ limitsSize
 size c =
     let f = c .before .before .before .before in
-    c .fill-axis2 .ensures .size ∙ f .fill-axis .ensures .size ∙ f .before .before .before .pre .2
+    c .fill-axis2 .ensures .size ∙ f .fill-axis .ensures .size ∙ f .before .before .before .pre .3
 
 ones : (c : tie.After-slice-known)
     → let q = c .before .args .q in
@@ -67,7 +63,7 @@ returns c =
     let a = s .args in
     let limits = two .fill-axis2 .last .0 in
     let own = c .before .before .stream-reach .ensures ∙ ap (λ (n : ℕ). streamReach (a .q) limits (a .j) (n - 1)) (ones k) in
-    stream-filled (s .pre .0) (s .pre .1) (s .pre .2) (one .fill-axis .ensures) (two .fill-axis2 .ensures) (c .larger .result)
+    stream-filled (s .pre .0) (s .pre .1) (s .pre .2) (s .pre .3) (one .fill-axis .ensures) (two .fill-axis2 .ensures) (c .larger .result)
     (c .larger .ensures ∙ ap (max (getD limits (firstPlace (a .j)) 0)) own)
 
 pub fill-stream-spec : {M : Type 1} → statement M
@@ -78,10 +74,10 @@ fill-stream-spec =
     (λ c. search needs)
     (λ c. search needs)
     (λ c. search needs)
-    (λ c. omega (arith, few (c .before)))
+    (λ c. omega (arith, c .before .before .pre .2))
     fill-axis-requires
-    (λ c. omega (arith, few (c .before .before .before .before .before)))
-    (λ c. omega (arith, few (c .before .before .before .before .before)))
+    (λ c. omega (arith, c .before .before .before .before .before .before .pre .2))
+    (λ c. omega (arith, c .before .before .before .before .before .before .pre .2))
     (λ c. search needs)
     fill-axis-requires-2
     (λ c. search needs)

@@ -27,7 +27,7 @@ mask-is : (c : tie.After-shared-slice-known)
     bitAnd (a .symbol) (1 * 2 ^ (a .q / 2) % 2 ^ 64 - 1) ≡ a .symbol % 2 ^ (a .q / 2)
 mask-is c =
     let a = c .before .args in
-    let h : a .q / 2 ≤ 24 = omega (arith, c .before .pre .0) in rw (one-shifted (a .q / 2)) (and-mask (a .symbol) (a .q / 2))
+    rw (one-shifted (a .q / 2) (omega (arith, c .before .pre .0))) (and-mask (a .symbol) (a .q / 2))
 
 imaginary-few : (c : tie.After-shared-slice-known)
     → let a = c .before .args in
@@ -40,7 +40,7 @@ imaginary-few c =
 sub-im : tie.Need-sub-im
 sub-im c =
     let q = c .before .before .args .q in
-    let h : q / 2 ≤ 24 = omega (arith, c .before .before .pre .0) in rw (one-shifted (q / 2)) (pow-pos (q / 2))
+    rw (one-shifted (q / 2) (omega (arith, c .before .before .pre .0))) (pow-pos (q / 2))
 
 returns : tie.Need-returns
 unfolding streamReach

@@ -1,6 +1,8 @@
 -- Each size is at most its bound, so the law `sums` bounds every product.
 use borrow.Author.Needs.{needs, sfits-of}
 use mathlib.Core.Path.{_≡_}
+use Prim.Native.Nat.{_*_, _≤_}
+use native.Mathlib.Nat.{mul-le-mul}
 use native.Mathlib.Omega.{arith}
 use lib.IntN.{pos}
 use lib.ListN.{getD}
@@ -18,7 +20,7 @@ streams c =
     let f : SFits w32 (getD (c .before .before .args .numbers .now) 0 (pos 0)) = sfits-of (c .before .size-arg .given) in
     simp toZ-ofZ at (c .size .ensures)
 
-width : (c : tie.After-size2) → c .size2 .result ≡ sizeAt (c .before .before .before .before .args .numbers .now) 1 6
+width : (c : tie.After-size2) → c .size2 .result ≡ sizeAt (c .before .before .before .before .args .numbers .now) 1 8
 width c =
     let f : SFits w32 (getD (c .before .before .before .before .args .numbers .now) 1 (pos 0)) = sfits-of (c .before .size-arg2 .given) in
     simp toZ-ofZ at (c .size2 .ensures)
@@ -29,14 +31,22 @@ vectors c =
     let f : SFits w32 (getD (s .args .numbers .now) 2 (pos 0)) = sfits-of (c .before .size-arg3 .given) in
     simp toZ-ofZ at (c .size3 .ensures)
 
-bounds : (c : tie.After-size3)
-    → Sums (c .before .before .before .before .size .result) (c .before .before .size2 .result) (c .size3 .result)
-bounds c = sums _ _ _ (omega arith) (omega arith) (omega arith)
+-- M × Q, before it is seen that there are no more priors than 24
+bits : (c : tie.After-size3) → c .before .before .before .before .size .result * c .before .before .size2 .result ≤ 32
+bits c =
+    let h : c .before .before .before .before .size .result ≤ 4 = omega (arith, streams (c .before .before .before .before)) in
+    let k : c .before .before .size2 .result ≤ 8 = omega (arith, width (c .before .before)) in
+    mul-le-mul h k
+
+bounds : (c : tie.After-smaller)
+    → Sums (c .before .before .before .before .before .size .result) (c .before .size3 .result) (c .smaller .result)
+bounds c = sums _ _ _ (omega arith) (omega arith) (omega (arith, c .smaller .ensures))
 
 returns : tie.Need-returns
 returns c =
-    let m = streams (c .before .before .before .before) in
-    (rw (m, width (c .before .before), vectors c), omega (arith, bounds c .vectors))
+    let n = c .before in
+    let q = n .before .before in
+    (rw (c .smaller .ensures, streams (q .before .before), width q, vectors n), omega (arith, bounds c .vectors))
 
 pub count-spec : {M : Type 1} → statement M
 count-spec =
@@ -48,11 +58,12 @@ count-spec =
     (λ c κs. search needs)
     (λ c. search needs)
     (λ c κs. search needs)
+    (λ c. omega (arith, bits c))
+    (λ c κs. search needs)
     (λ c. omega (arith, bounds c .square))
     (λ c. search needs)
     (λ c. omega (arith, bounds c .square))
-    (λ c. omega (arith, bounds c .priors))
-    (λ c. omega (arith, bounds c .square, bounds c .priors))
+    (λ c. omega (arith, bounds c .square, c .smaller .ensures))
     (λ c. omega (arith, bounds c .vectors))
     (λ c. omega (arith, bounds c .vectors))
     returns)

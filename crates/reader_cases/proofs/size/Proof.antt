@@ -1,7 +1,6 @@
--- A widened number has the same magnitude, and the test picks the smaller.
+-- A widened number has the same magnitude.
 use borrow.Author.Needs.{needs}
-use native.Mathlib.Omega.{arith}
-use mathlib.Core.Path.{_≡_}
+use mathlib.Core.Path.{_≡_, _∙_}
 use lib.IntN.{natAbs}
 use mir.Syntax.{w64}
 use mir.Val.{SFits}
@@ -21,5 +20,5 @@ size-spec =
     (tie.spec
     (λ c. let f = c .fits .z in simp toZ-ofZ (wide c))
     (λ c κs. search needs)
-    (λ c. omega (arith, magnitude (c .before)))
-    (λ c. omega (arith, magnitude (c .before))))
+    (λ c κs. search needs)
+    (λ c. c .smaller .ensures ∙ rw (magnitude (c .before))))

@@ -17,6 +17,7 @@ use Rattle.metric.proofs.Shifts.{one-shifted}
 use Rattle.pruning.specs.Program.{takenIn, limitsOf, keptOf}
 use Rattle.pruning.proofs.Arrays.{part-length}
 use Rattle.pruning.proofs.Minima.{limits-part, limits-length}
+use Rattle.reach.specs.Reach.{limitsSize}
 use Rattle.siblings.specs.Rows.{keyCount}
 use Rattle.search.specs.Limits.{minimaSize, verdictBy}
 use Rattle.search.proofs.Search.{Searching, partial-few, leaf-noted, kids-few, places-few, keys-room, keys-left, next-length, chosen-few}
@@ -34,24 +35,24 @@ use Rattle.search.proofs.take_leaf.Reads as take-leaf-reads
 use Rattle.search.proofs.+walk.{statement}
 use Rattle.search.proofs.+walk.Tie.{close}
 
-abbrev μ-walk : Measures 4 walk-kinds.ps ℕ
+abbrev μ-walk : Measures 5 walk-kinds.ps ℕ
 μ-walk κs a = a .1 .0 .level
 
-abbrev walk-at : ℕ → In 4 walk-kinds.ps
-walk-at t = and 4 walk-kinds.ps (is 4 walk-kinds.ps μ-walk t) walk.Pre
+abbrev walk-at : ℕ → In 5 walk-kinds.ps
+walk-at t = and 5 walk-kinds.ps (is 5 walk-kinds.ps μ-walk t) walk.Pre
 
-abbrev walk-below : ℕ → In 4 walk-kinds.ps
-walk-below t = and 4 walk-kinds.ps (falls 4 walk-kinds.ps _<_ μ-walk t) walk.Pre
+abbrev walk-below : ℕ → In 5 walk-kinds.ps
+walk-below t = and 5 walk-kinds.ps (falls 5 walk-kinds.ps _<_ μ-walk t) walk.Pre
 
 abbrev Inv : walk-lts.InvT-loop
-Inv task node numbers tables minima₀ keys₀ n places k₀ tried₀ minima keys k tried =
+Inv task node points numbers tables minima₀ keys₀ n places k₀ tried₀ minima keys k tried =
     (n ≡ 2 ^ task .width) × (places ≡ keyCount (task .width)) × (length minima ≡ minimaSize) × (length keys ≡ length keys₀)
     × Searching (task .streams) (task .width) (task .clip) numbers (task .allowance) (node .level) (node .bits) (node .partial)
     (keptOf (k₀ .count) false (takenIn (k₀ .label) (k₀ .best) minima₀)) tried keys
     (keptOf (k .count) (k .stopped) (takenIn (k .label) (k .best) minima)) (limitsOf minima)
 
 abbrev μ-loop : walk-lts.MeasureT-loop
-μ-loop task node numbers tables minima₀ keys₀ n places k₀ tried₀ minima keys k tried = n - tried
+μ-loop task node points numbers tables minima₀ keys₀ n places k₀ tried₀ minima keys k tried = n - tried
 
 abbrev calls : ℕ → walk-lts.Claims
 calls t = (
@@ -82,7 +83,7 @@ module _ (t : ℕ) (s : walk-lts.Start (calls t) (walk-at t) walk.Post Inv μ-lo
   abbrev placesOf : ℕ
   placesOf = 1 * 2 ^ s .args .task .width % 2 ^ 64 + 1 * 2 ^ (s .args .task .width - s .args .task .width / 2) % 2 ^ 64
 
-  limits-whole : length (limitsOf (s .args .minima .now)) ≡ 96
+  limits-whole : length (limitsOf (s .args .minima .now)) ≡ limitsSize
   limits-whole = limits-length (s .args .minima .now) ∙ omega (arith, s .pre .1 .3)
 
 -- From the turn at which a child is known, back to its loop, its node and the start
@@ -143,7 +144,7 @@ pub +walk-spec : {M : Type 1} → statement M
     (λ c. omega (arith, c .before .before .before .before .before .pre .1 .3))
     (λ c. le-refl _)
     (λ c κs. let s = c .before .before .before .before .before .before .before in let w = s .pre .1 .0 in let inner = c .before .before .before .if1 .left in
-    (w .asked .vector, s .pre .1 .2, omega arith, w .inside, omega (arith, partial-few w), keys-room w inner (s .args .keys .now) (s .pre .1 .4), rw (limits-part (s .args .minima .now)) (limits-whole t s), w .lowest))
+    (w .asked .vector, s .pre .1 .2, omega arith, w .inside, omega (arith, partial-few w), keys-room w inner (s .args .keys .now) (s .pre .1 .4), rw (limits-part (s .args .minima .now)) (limits-whole t s), w .lowest, s .pre .1 .5))
     (λ c. refl)
     (λ c. c .before .before .before .expand .ensures .size)
     (λ c. let s = c .before .before .before .before .before .before .before .before .before .before .before in let w = s .pre .1 .0 in
@@ -190,11 +191,12 @@ pub +walk-spec : {M : Type 1} → statement M
         s .pre .1 .2,
         c .before .before .before .before .before .before .before .before .before .before .before .before .before .loop .inv .2,
         rw (c .before .before .before .before .before .before .before .before .before .before .before .before .before .loop .inv .1) (omega (arith, left t n, part-length (keyCount (s .args .task .width)) (n .next-child .last .1 .1 .0))),
+        s .pre .1 .5,
       ),
     ))
     (λ c. c .before .before .before .before .before .walk .ensures .2 ∙ sym (c .before .before .before .before .before .before .before .before .before .before .before .before .before .before .before .before .before .before .before .before .before .before .before .before .before .before .before .before .before .before .before .before .before .before .pre .1 .3))
     (λ c. let n = c .before .before .before .before .before .before .before .before .before .before .before .before .before .before .before .before in let w = placesOf t (begin t n) in let after = n .next-child .last .1 .1 .0 in
-    same-len-mid w (length after - w) after (c .before .before .before .before .before .walk .last .1 .1 .1 .1 .1 .1 .0) (c .before .before .before .before .before .walk .kept .1 .1 .1 .1 .1 .1 .0) ∙ keys-length t n)
+    same-len-mid w (length after - w) after (c .before .before .before .before .before .walk .last .1 .1 .1 .1 .1 .1 .1 .0) (c .before .before .before .before .before .walk .kept .1 .1 .1 .1 .1 .1 .1 .0) ∙ keys-length t n)
     (λ c. let m = c .before .before .before .before .before .before .before .before .before in let h = c .before .before .before .before .before .before .before .before .counted .ensures in let r = c .before .before .before .before .before .walk .ensures in
     (stops (turn t (m .before .before)) (m .enum-told3 .given .1) _ (rw (h .0, h .2, h .3) at (r .0)) (c .if3 .taken), r .1, r .2))
     (λ c. c .match .keys4)
@@ -204,7 +206,7 @@ pub +walk-spec : {M : Type 1} → statement M
     ⊎-elim
     (λ x. let n = c .before .before .before .before .before .before in let l = loop t n .loop in let h = x .2 .ensures in let r = x .5 .ensures in
     let w = placesOf t (begin t n) in let after = n .next-child .last .1 .1 .0 in
-    let many = same-len-mid w (length after - w) after (x .5 .last .1 .1 .1 .1 .1 .1 .0) (x .5 .kept .1 .1 .1 .1 .1 .1 .0) in (
+    let many = same-len-mid w (length after - w) after (x .5 .last .1 .1 .1 .1 .1 .1 .1 .0) (x .5 .kept .1 .1 .1 .1 .1 .1 .1 .0) in (
       l .inv .0,
       l .inv .1,
       rw (x .11) (r .2),

@@ -9,7 +9,6 @@ use Rattle.metric.proofs.Filled.{filled-more, filled-length}
 use Rattle.pruning.specs.Program.{Taken, takenIn, limitsOf}
 use Rattle.search.specs.Limits.{vectorFor, limitAt, minimaSize}
 use Rattle.pruning.proofs.Minima.{taken-kept, limits-whole, limit-set}
-use Rattle.search.proofs.Values.{few}
 use Rattle.search.proofs.limit_all.Statement.{statement}
 use Rattle.search.proofs.limit_all.Tie as tie
 
@@ -56,13 +55,13 @@ limit-all-spec =
     (tie.spec
     Inv-loop
     μ-loop
-    (λ c. omega (arith, few (c .before .before .pre .0 .vector)))
+    (λ c. omega (arith, c .before .before .pre .0 .vector .label))
     loop-holds
     (λ c κs. let s = c .before .before .before .before .before in (s .pre .0, omega arith, s .pre .1, whole (c .before .before)))
-    (λ c. omega (arith, few (c .before .before .before .before .before .before .pre .0 .vector)))
-    (λ c. omega (arith, few (c .before .before .before .before .before .before .pre .0 .vector)))
-    (λ c. omega (arith, few (c .before .before .before .before .before .before .pre .0 .vector), whole (c .before .before .before)))
-    (λ c. omega (arith, few (c .before .before .before .before .before .before .pre .0 .vector)))
+    (λ c. omega (arith, c .before .before .before .before .before .before .pre .0 .vector .label))
+    (λ c. omega (arith, c .before .before .before .before .before .before .pre .0 .vector .label))
+    (λ c. omega (arith, c .before .before .before .before .before .before .pre .0 .vector .label, whole (c .before .before .before)))
+    (λ c. omega (arith, c .before .before .before .before .before .before .pre .0 .vector .label))
     (λ c. omega arith)
     loop-again
     (λ c. whole (c .before) ∙ sym (c .before .before .before .before .pre .2))

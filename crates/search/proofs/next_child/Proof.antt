@@ -6,6 +6,7 @@ use borrow.Author.Needs.{needs}
 use native.Mathlib.Omega.{arith}
 use lib.ListN.{getD}
 use lib.Pow.{pow-mono}
+use Rattle.model.specs.Block.{mostWidth}
 use Rattle.pruning.proofs.Bounds.{symbol-inside}
 use Rattle.siblings.specs.Rows.{Took}
 use Rattle.search.specs.Limits.{NextChild}
@@ -21,8 +22,8 @@ picked m q level node keys after s key bits t e = record {
   tried = subst (λ (x : ℕ). Took q keys after x key) (t .first) t;
 }
 
--- A symbol is below 64
-few : (t : tie.After-take) → t .take .result .symbol < 64
+-- A symbol is one of the widest at most
+few : (t : tie.After-take) → t .take .result .symbol < 2 ^ mostWidth
 few t =
     let s = t .before .before .before in
     omega (arith, symbol-inside (s .args .keys .now) (s .args .task .width) _ _ refl (t .take .ensures .first), pow-mono (s .pre .0))

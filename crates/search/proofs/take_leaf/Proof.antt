@@ -6,7 +6,7 @@ use Rattle.model.specs.Metric.{Vector}
 use Rattle.pruning.specs.Program.{keptOf, takenIn}
 use Rattle.search.specs.Limits.{vectorFor}
 use Rattle.search.proofs.Leaves.{front-whole, behind-whole, ones-behind, sides-whole, leaf-noted}
-use Rattle.search.proofs.Values.{few, bits-are}
+use Rattle.search.proofs.Values.{bits-are}
 use Rattle.search.proofs.take_leaf.Statement.{statement}
 use Rattle.search.proofs.take_leaf.Tie as tie
 
@@ -38,14 +38,14 @@ pub take-leaf-spec : {M : Type 1} → statement M
 take-leaf-spec =
     tie.close
     (tie.spec
-    (λ c. omega (arith, few (c .before .before .pre .0 .vector)))
+    (λ c. omega (arith, c .before .before .pre .0 .vector .label))
     (λ c. search needs)
     (λ c. let s = c .before .before .before in sym (front-whole (s .args .minima .now) (s .pre .3)))
-    (λ c κs. let s = c .before .before .before in let n = few (s .pre .0 .vector) in (n, omega (arith, n, front-whole (s .args .minima .now) (s .pre .3))))
+    (λ c κs. let s = c .before .before .before in let n = s .pre .0 .vector .label in (n, omega (arith, n, front-whole (s .args .minima .now) (s .pre .3))))
     (λ c. search needs)
     (λ c. search needs)
     (λ c. search needs)
-    (λ c κs. let s = c .before .before .before .before .before .before .before in let n = few (s .pre .0 .vector) in
+    (λ c κs. let s = c .before .before .before .before .before .before .before in let n = s .pre .0 .vector .label in
     (n, rw (ones-behind (s .args .minima .now) (s .pre .3) _ _ _ _ (c .before .before .before .note .ensures)) (omega (arith, n, behind-whole (s .args .minima .now) (s .pre .3)))))
     (λ c κs. search needs)
     renew-limits-requires

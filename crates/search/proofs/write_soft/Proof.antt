@@ -11,7 +11,7 @@ use Rattle.metric.specs.Parts.{filled}
 use Rattle.pruning.specs.Program.{takenIn, zerosOf, onesOf, valueOf}
 use Rattle.search.specs.Limits.{vectorFor}
 use Rattle.pruning.proofs.Minima.{zero-at, one-at}
-use Rattle.search.proofs.Values.{few, prior-small, write-more, soft-by}
+use Rattle.search.proofs.Values.{prior-small, write-more, soft-by}
 use Rattle.search.proofs.write_soft.Statement.{statement}
 use Rattle.search.proofs.write_soft.Tie as tie
 
@@ -24,7 +24,7 @@ abbrev μ-loop : tie.MeasureT-loop
 μ-loop task numbers minima soft₀ n i₀ soft i = n - i
 
 inside : (c : tie.In-loop Inv-loop μ-loop) → c .before .loop .i < 24
-inside c = omega (arith, c .loop-test .taken, few (c .before .before .before .before .pre .0 .vector))
+inside c = omega (arith, c .loop-test .taken, c .before .before .before .before .pre .0 .vector .label)
 
 loop-holds : tie.Need-loop-holds Inv-loop μ-loop
 unfolding filled
@@ -83,7 +83,7 @@ write-soft-spec =
     (tie.spec
     Inv-loop
     μ-loop
-    (λ c. omega (arith, few (c .before .before .pre .0 .vector)))
+    (λ c. omega (arith, c .before .before .pre .0 .vector .label))
     loop-holds
     (λ c κs. (c .before .before .before .before .pre .0 .vector, c .loop-test .taken))
     (λ c. omega (arith, inside (c .before)))

@@ -10,11 +10,11 @@ use Rattle.search_cases.proofs.search_at.Tie as tie
 
 -- From where the header is read, back to the start
 abbrev early : tie.After-count-at4 → tie.Start
-early c = c .before .before .before .before
+early c = c .before .before .before .before .before
 
 cast-clip : tie.Need-cast-clip
 unfolding blockOf
-cast-clip c = omega (arith, c .before .before .before .pre .0 .ranged .clip, c .count-at3 .ensures)
+cast-clip c = omega (arith, c .before .before .before .before .pre .0 .ranged .clip, c .count-at3 .ensures)
 
 cast-share : tie.Need-cast-share
 unfolding blockOf
@@ -38,21 +38,21 @@ end c =
 
 search-vector-requires : tie.Need-search-vector-requires
 search-vector-requires c κs =
-    let l = c .before .before .before in
+    let l = c .before .before .before .before in
     let s = early l in
     let q = l .before .before in
     let asked =
     part-asked (s .args .numbers .now) (s .pre .0) _ _ (q .before .count-at .ensures) (q .count-at2 .ensures) (s .args .k) (s .pre .1) _
     (l .before .count-at3 .ensures) in
-    (asked, s .pre .2)
+    (asked, s .pre .2, s .pre .3, rw (q .count-at2 .ensures) (s .pre .4))
 
 returns : tie.Need-returns
 returns c =
-    let l = c .before .before .before .before in
+    let l = c .before .before .before .before .before .before .before in
     let s = early l in
     let q = l .before .before in
     part-answered (s .args .numbers .now) (s .pre .0) _ _ (q .before .count-at .ensures) (q .count-at2 .ensures) (s .args .k) (s .pre .1) _
-    (l .before .count-at3 .ensures) (l .count-at4 .ensures) (c .search-vector .ensures)
+    (l .before .count-at3 .ensures) (l .count-at4 .ensures) (c .before .before .search-vector .ensures)
 
 pub search-at-spec : {M : Type 1} → statement M
 search-at-spec =
@@ -77,4 +77,5 @@ search-at-spec =
     (λ c. search needs)
     (λ c. omega (arith, end (c .before), early (c .before) .pre .0 .room))
     search-vector-requires
+    (λ c. search needs)
     returns)

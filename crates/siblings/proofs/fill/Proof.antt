@@ -8,6 +8,7 @@ use Rattle.metric.specs.Parts.{axisWidth, filledFrom}
 use Rattle.metric.proofs.Filled.{filled-length, from-length}
 use Rattle.metric.proofs.Shifts.{one-shifted}
 use Rattle.metric.proofs.Grid.{row-room}
+use Rattle.pruning.specs.Program.{mostChildren}
 use Rattle.siblings.specs.Rows.{rowCount, columnCount}
 use Rattle.siblings.proofs.Filling.{columnAt, column-more, placed}
 use Rattle.siblings.proofs.fill.Statement.{statement}
@@ -56,14 +57,14 @@ room : (i : tie.In-loop Inv-loop μ-loop)
     → let l = i .before in
     let q = l .before .before .before .before .before .before .before .before .args .q in
     let c = 1 * 2 ^ (q / 2) % 2 ^ 64 in
-    (l .loop .a * c + c ≤ 2 ^ q) × (2 ^ q ≤ 64) × (2 ^ q < length (l .loop .keys))
-    × (1 * 2 ^ q % 2 ^ 64 + l .loop .a < length (l .loop .keys)) × (1 * 2 ^ q % 2 ^ 64 + l .loop .a < 128)
+    (l .loop .a * c + c ≤ 2 ^ q) × (2 ^ q ≤ mostChildren) × (2 ^ q < length (l .loop .keys))
+    × (1 * 2 ^ q % 2 ^ 64 + l .loop .a < length (l .loop .keys)) × (1 * 2 ^ q % 2 ^ 64 + l .loop .a < 2 * mostChildren)
 room i =
     let l = i .before in
     let s = l .before .before .before .before .before .before .before .before in
     let q = s .args .q in
     let a : l .loop .a < 2 ^ (q - q / 2) = omega (arith, l .loop .inv .1, i .loop-test .taken) in
-    let few : 2 ^ q ≤ 64 = pow-mono (s .pre .0) in
+    let few : 2 ^ q ≤ mostChildren = pow-mono (s .pre .0) in
     let r : q - q / 2 ≤ q = omega arith in
     let some : 2 ^ (q - q / 2) ≤ 2 ^ q = pow-mono r in
     rw (l .loop .inv .0, l .loop .inv .2) (

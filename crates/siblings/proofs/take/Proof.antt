@@ -6,6 +6,7 @@ use lib.ListN.{length, length-set}
 use lib.Pow.{pow-pos, pow-mono}
 use Rattle.metric.proofs.Shifts.{one-shifted}
 use Rattle.metric.proofs.Grid.{row-room}
+use Rattle.pruning.specs.Program.{mostChildren}
 use Rattle.siblings.proofs.Taking.{took}
 use Rattle.siblings.proofs.take.Statement.{statement}
 use Rattle.siblings.proofs.take.Tie as tie
@@ -14,7 +15,7 @@ use Rattle.siblings.proofs.take.Tie as tie
 room : (l : tie.After-least-first)
     → let s = l .before .before .before .args in
     let c = 1 * 2 ^ (s .q / 2) % 2 ^ 64 in
-    (1 ≤ c) × (l .least-first .result * c + c ≤ 2 ^ s .q) × (2 ^ s .q ≤ 64) × (2 ^ s .q ≤ length (s .keys .now))
+    (1 ≤ c) × (l .least-first .result * c + c ≤ 2 ^ s .q) × (2 ^ s .q ≤ mostChildren) × (2 ^ s .q ≤ length (s .keys .now))
     × (1 * 2 ^ s .q % 2 ^ 64 + l .least-first .result < length (s .keys .now))
 room l =
     let s = l .before .before .before in

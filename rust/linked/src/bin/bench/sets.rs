@@ -39,11 +39,11 @@ fn walked_nodes(reply: &[u8], vector_numbers: usize) -> u64 {
 }
 
 /// Receptions over Rayleigh channels, 16 vectors a record under a share of 3,000: M, Q, noise, clip and priors as in `Plan`. The widest clip
-/// is for the largest tree alone.
+/// is for four streams of 64 points alone.
 pub fn own() -> Vec<Record> {
     let clips_and_priors = [(1.0, 0.0), (8.0, 0.0), (8.0, 2.0), (60.0, 0.0)];
     let mut all = vec![];
-    for (streams, bits, kinds) in [(4, 6, 4), (4, 4, 3), (2, 6, 3)] {
+    for (streams, bits, kinds) in [(4, 6, 4), (4, 4, 3), (2, 6, 3), (3, 8, 3), (2, 8, 3)] {
         for noise in [0.3, 0.5, 0.9, 2.0] {
             for (clip, prior) in clips_and_priors.into_iter().take(kinds) {
                 let plan = Plan { streams, bits, vectors: 16, clip, share: 3_000, noise, prior };
