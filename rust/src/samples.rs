@@ -48,7 +48,7 @@ fn wide() -> Vec<u8> {
     plan.block(&mut Chance(24)).record()
 }
 
-/// Four streams of 256 points, one more than may have as many.
+/// Four streams of 256 points, where three are the most.
 fn refused_wide() -> Vec<u8> {
     let plan = Plan { streams: 4, bits: 8, vectors: 1, clip: 8.0, share: 60, noise: 0.9, prior: 0.0 };
     plan.block(&mut Chance(25)).record()

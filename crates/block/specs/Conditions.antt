@@ -69,7 +69,7 @@ TurnedBack bytes Ends = (k : Kind) × (at : ℕ) × Next bytes k at × (numberAt
 TurnedBack bytes Malformed = (k : Kind) × (at : ℕ) × Next bytes k at × (numberAt bytes at ≡ NoNumber)
 -- "not 1 to 4"
 TurnedBack bytes Streams = OutOfRange bytes StreamCount
--- "not 1, 2, 4, 6", and by document 02 not 8, whatever M is
+-- "not 1, 2, 4, 6", nor document 02's 8, whatever M is
 TurnedBack bytes Width = (m : ℤ) × NextIs bytes (SymbolWidth m) (λ (q : ℤ). oneOf widths q ≡ false)
 -- "not 1 to 64"
 TurnedBack bytes Vectors = OutOfRange bytes VectorCount

@@ -3,7 +3,7 @@
 use Prim.Native.Nat.{ℕ, zero, suc, _+_, _-_, _*_, _/_, _%_, _^_, _≤_, _<_}
 use mathlib.Core.Path.{_≡_, refl, sym, _∙_, ap, ap₂, subst}
 use mathlib.Core.Logic.{_≢_, ⊎-elim}
-use mathlib.Core.List.{List, [], _∷_, map}
+use mathlib.Core.List.{List, map}
 use native.Mathlib.Nat.{eq-or-lt-of-le, not-suc-le-zero, mul-assoc, mul-comm, mul-div-cancel, mod-eq-of-lt, mul-lt-mul-of-pos-right}
 use native.Mathlib.Omega.{arith}
 use lib.IntN.{ℤ, pos, _+ℤ_}
@@ -15,7 +15,7 @@ use Rattle.model.specs.Soft.{upFrom}
 use Rattle.model.proofs.Gray.{gray-neighbours}
 use Rattle.model.proofs.Lists.{getD-places}
 use Rattle.model.proofs.Numbers.{length-bitsOf, take-bits, drop-bits, low-bits}
-use Rattle.constellation.specs.Points.{complexOf, places, axisTable, pointIn, Points, FilledTo, Filled}
+use Rattle.constellation.specs.Points.{complexOf, axisTable, pointIn, Points, FilledTo, Filled}
 
 -- The amplitudes of an axis of w bits, by rising label
 axis : ℕ → List ℤ
@@ -51,11 +51,13 @@ point-halves q s =
 pub record Right (q : ℕ) (table : List ℤ) : Type 0 where
   pub points : map (pointIn table) (upFrom 0 (2 ^ q)) ≡ map (λ s. point (bitsOf q s)) (upFrom 0 (2 ^ q))
 
--- A table that passes it has each point
-pub table-at : {q : ℕ} {table : List ℤ} → Right q table → (s : ℕ) → s < 2 ^ q → pointIn table s ≡ point (bitsOf q s)
-table-at {q} {table} right s h =
-    sym (getD-places (pointIn table) origin (2 ^ q) s h)
-    ∙ ap (λ (l : List Complex). getD l s origin) (right .points) ∙ getD-places (λ i. point (bitsOf q i)) origin (2 ^ q) s h
+-- A table that passes it has each point, so what is said of points below holds of it
+pub table-points : {q : ℕ} {table : List ℤ} → Right q table → Points q table
+table-points {q} {table} right = record {
+  each = λ s h.
+      sym (getD-places (pointIn table) origin (2 ^ q) s h)
+      ∙ ap (λ (l : List Complex). getD l s origin) (right .points) ∙ getD-places (λ i. point (bitsOf q i)) origin (2 ^ q) s h;
+}
   where
     origin : Complex
     origin = complexOf (pos 0) (pos 0)
@@ -92,8 +94,8 @@ filled-more {q} {s} {old} {now} f room re im e = record {
         ap₂ complexOf (other (2 * t) (omega arith) (omega arith)) (other (2 * t + 1) (omega arith) (omega arith)) ∙ f .each t h
 
 -- What is filled in are the points
-pub points-of : {q : ℕ} {old new : List ℤ} → length old ≡ places → Filled q old new → Points q new
-points-of e f = record { size = f .size ∙ e; each = f .each }
+pub points-of : {q : ℕ} {old new : List ℤ} → Filled q old new → Points q new
+points-of f = record { each = f .each }
 
 module _ {q : ℕ} {points : List ℤ} (p : Points q points) where
   -- The amplitudes of the real axis stand at the symbols whose lower bits are 0

@@ -20,7 +20,6 @@ pointIn points s = complexOf (getD points (2 * s) (pos 0)) (getD points (2 * s +
 
 -- An array has the points of all symbols of q bits
 pub record Points (q : ℕ) (points : List ℤ) : Type 0 where
-  pub size : length points ≡ places
   pub each : (s : ℕ) → s < 2 ^ q → pointIn points s ≡ point (bitsOf q s)
 
 -- The points of the first k symbols are filled in, and what stands behind them stays

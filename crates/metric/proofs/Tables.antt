@@ -166,7 +166,6 @@ module _ {q : ℕ} {points : List ℤ} (p : Points q points) (few : q ≤ mostWi
   pub real-amplitudes : (step : ℕ) → step ≡ 2 * 2 ^ (q / 2) → AmplitudesAsked points 0 step (q - q / 2)
   real-amplitudes step e = record {
     bits = axis-few q real few;
-    table = p .size;
     room = λ g h. rw e (omega (arith, row-room q g h, pow-pos (q / 2), pow-mono few, place g));
     each = λ g h. rw (e, zero-add) (real-axis p g h);
   }
@@ -177,7 +176,6 @@ module _ {q : ℕ} {points : List ℤ} (p : Points q points) (few : q ≤ mostWi
   pub imaginary-amplitudes : AmplitudesAsked points 1 2 (q / 2)
   imaginary-amplitudes = record {
     bits = axis-few q imaginary few;
-    table = p .size;
     room = λ g h. omega (arith, h, pow-mono (axis-few q imaginary few));
     each = λ g h. imaginary-axis p g h;
   }

@@ -11,7 +11,7 @@ use Rattle.model.specs.Soft.{upFrom}
 use Rattle.model.specs.Block.{Within, mostStreams, mostWidth, mostBits, mostEntry, mostReceived, mostPrior}
 use Rattle.block.specs.Reading.{vectorSize}
 use Rattle.block.specs.Contents.{complexAt}
-use Rattle.constellation.specs.Points.{places, pointIn}
+use Rattle.constellation.specs.Points.{pointIn}
 use Rattle.metric.specs.Parts.{span, part, realIn, imaginaryIn, childMetric, AllSmall}
 
 -- Where row i's numbers of R begin, from 0: the rows before it have 2m - 1, 2m - 3, .. numbers
@@ -72,7 +72,6 @@ pub record Factors (a b x y : ℤ) : Type 0 where
 
 -- What multiplying the entry of R at a place with a symbol's point asks
 pub record TermAsked (points numbers : List ℤ) (place symbol : ℕ) : Type 0 where
-  pub table : length points ≡ places
   pub below : symbol < 2 ^ mostWidth
   pub point-re : natAbs (pointIn points symbol .re) < span
   pub point-im : natAbs (pointIn points symbol .im) < span

@@ -82,7 +82,6 @@ pub record AxisAsked (tables : List ℤ) (at : ℕ) (left : ℤ) (w : ℕ) : Typ
 -- What multiplying with an axis's amplitudes asks: they stand in the points from a place on, some places apart
 pub record AmplitudesAsked (points : List ℤ) (first step w : ℕ) : Type 0 where
   pub bits : w ≤ axisWidth
-  pub table : length points ≡ places
   pub room : (g : ℕ) → g < 2 ^ w → first + g * step < places
   pub each : (g : ℕ) → g < 2 ^ w → getD points (first + g * step) (pos 0) ≡ amplitude (bitsOf w g)
 

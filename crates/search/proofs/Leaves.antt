@@ -7,6 +7,7 @@ use mathlib.Core.List.{List, _++_}
 use native.Mathlib.Omega.{arith}
 use lib.ListN.{length, take, drop, length-append, length-drop}
 use lib.Seq.{take-at, drop-at, length-take-le}
+use Rattle.model.specs.Block.{mostBits}
 use Rattle.model.specs.Metric.{Vector, labelBits}
 use Rattle.metric.proofs.Filled.{filled-length}
 use Rattle.pruning.specs.Program.{Taken, takenOf, takenIn, zerosOf, onesOf, lowered, sooner, noted}
@@ -21,48 +22,48 @@ noted-by v n en t node d label best zeros ones el eb ez eo = (λ j. takenOf (el 
 
 module _ (old : List ℕ) (whole : length old ≡ minimaSize) where
   -- The lowered minima are as many
-  pub front-whole : length (zerosOf old) ≡ 24
-  front-whole = length-take-le 24 old (omega arith)
+  pub front-whole : length (zerosOf old) ≡ mostBits
+  front-whole = length-take-le mostBits old (omega arith)
 
-  pub behind-whole : length (onesOf old) ≡ 24
-  behind-whole = length-take-le 24 (drop 24 old) (omega (arith, length-drop 24 old))
+  pub behind-whole : length (onesOf old) ≡ mostBits
+  behind-whole = length-take-le mostBits (drop mostBits old) (omega (arith, length-drop mostBits old))
 
   module _ (n node d : ℕ) (zeros : List ℕ) (ez : zeros ≡ lowered n false node d (zerosOf old)) where
-    zeros-whole : length zeros ≡ 24
+    zeros-whole : length zeros ≡ mostBits
     zeros-whole = ap length ez ∙ filled-length _ _ _ ∙ front-whole
 
     -- With the zeros in place, the ones stand behind them
-    pub ones-behind : take 24 (drop 24 (zeros ++ drop 24 old)) ≡ onesOf old
-    ones-behind = ap (take 24) (drop-at zeros (drop 24 old) 24 zeros-whole)
+    pub ones-behind : take mostBits (drop mostBits (zeros ++ drop mostBits old)) ≡ onesOf old
+    ones-behind = ap (take mostBits) (drop-at zeros (drop mostBits old) mostBits zeros-whole)
 
-    module _ (ones : List ℕ) (eo : ones ≡ lowered n true node d (take 24 (drop 24 (zeros ++ drop 24 old)))) where
+    module _ (ones : List ℕ) (eo : ones ≡ lowered n true node d (take mostBits (drop mostBits (zeros ++ drop mostBits old)))) where
       -- Both sides are lowered
       abbrev sides : List ℕ
-      sides = take 24 (zeros ++ drop 24 old) ++ (ones ++ drop 24 (drop 24 (zeros ++ drop 24 old)))
+      sides = take mostBits (zeros ++ drop mostBits old) ++ (ones ++ drop mostBits (drop mostBits (zeros ++ drop mostBits old)))
 
       ones-are : ones ≡ lowered n true node d (onesOf old)
       ones-are = eo ∙ ap (lowered n true node d) ones-behind
 
-      ones-whole : length ones ≡ 24
+      ones-whole : length ones ≡ mostBits
       ones-whole = ap length ones-are ∙ filled-length _ _ _ ∙ behind-whole
 
-      front : take 24 (zeros ++ drop 24 old) ≡ zeros
-      front = take-at zeros (drop 24 old) 24 zeros-whole
+      front : take mostBits (zeros ++ drop mostBits old) ≡ zeros
+      front = take-at zeros (drop mostBits old) mostBits zeros-whole
 
-      front-length : length (take 24 (zeros ++ drop 24 old)) ≡ 24
+      front-length : length (take mostBits (zeros ++ drop mostBits old)) ≡ mostBits
       front-length = ap length front ∙ zeros-whole
 
       pub sides-whole : length sides ≡ minimaSize
       sides-whole =
-          let rest = drop 24 (drop 24 (zeros ++ drop 24 old)) in
+          let rest = drop mostBits (drop mostBits (zeros ++ drop mostBits old)) in
           omega (
             arith,
-            length-append (take 24 (zeros ++ drop 24 old)) (ones ++ rest),
+            length-append (take mostBits (zeros ++ drop mostBits old)) (ones ++ rest),
             length-append ones rest,
-            length-drop 24 (drop 24 (zeros ++ drop 24 old)),
-            length-drop 24 (zeros ++ drop 24 old),
-            length-append zeros (drop 24 old),
-            length-drop 24 old,
+            length-drop mostBits (drop mostBits (zeros ++ drop mostBits old)),
+            length-drop mostBits (zeros ++ drop mostBits old),
+            length-append zeros (drop mostBits old),
+            length-drop mostBits old,
             front-length,
             ones-whole,
             zeros-whole,
@@ -70,9 +71,9 @@ module _ (old : List ℕ) (whole : length old ≡ minimaSize) where
 
       taken-is : (label best : ℕ) → takenIn label best sides ≡ takenOf label best zeros ones
       taken-is label best =
-          let rest = drop 24 (drop 24 (zeros ++ drop 24 old)) in
-          ap₂ (takenOf label best) (take-at (take 24 (zeros ++ drop 24 old)) (ones ++ rest) 24 front-length ∙ front)
-          (ap (take 24) (drop-at (take 24 (zeros ++ drop 24 old)) (ones ++ rest) 24 front-length) ∙ take-at ones rest 24 ones-whole)
+          let rest = drop mostBits (drop mostBits (zeros ++ drop mostBits old)) in
+          ap₂ (takenOf label best) (take-at (take mostBits (zeros ++ drop mostBits old)) (ones ++ rest) mostBits front-length ∙ front)
+          (ap (take mostBits) (drop-at (take mostBits (zeros ++ drop mostBits old)) (ones ++ rest) mostBits front-length) ∙ take-at ones rest mostBits ones-whole)
 
       -- and the limits renewed
       module _ (v : Vector) (en : n ≡ labelBits v) (label best : ℕ) (after : List ℕ) (r : Renewed v label best sides after) where

@@ -1,5 +1,5 @@
 -- The search below a node by its steps: the state before a child is tried, and what each verdict on that child makes of it.
-use Prim.Native.Nat.{ℕ, suc, _+_, _-_, _*_, _/_, _^_, _≤_, _<_}
+use Prim.Native.Nat.{ℕ, suc, _+_, _-_, _*_, _^_, _≤_, _<_}
 use mathlib.Core.Path.{_≡_, refl, sym, _∙_, ap, ap₂, subst}
 use mathlib.Core.Bool.{Bool, true, false}
 use mathlib.Core.List.{List, _++_}
@@ -9,7 +9,6 @@ use lib.Dec.{ltb}
 use borrow.Author.Tests.{ltb-true, ltb-false}
 use lib.ListN.{length, getD, set, take}
 use lib.IntN.{ℤ}
-use lib.Pow.{pow-mono}
 use Rattle.model.specs.Metric.{Vector}
 use Rattle.block.proofs.Places.{rows-count}
 use Rattle.model.specs.Block.{mostWidth, mostBits}

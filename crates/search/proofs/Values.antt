@@ -71,7 +71,7 @@ module _ {m q clip : ℕ} {numbers : List ℤ} (h : SearchAsked m q clip numbers
 
   -- The limits before the first leaf
   module _ {minima : List ℕ} (r : Renewed (vectorAt m q clip numbers) 0 above (replicate minimaSize above) minima) where
-    pub root-fresh : takenIn 0 above minima ≡ fresh 24 .taken
+    pub root-fresh : takenIn 0 above minima ≡ fresh mostBits .taken
     root-fresh = r .kept
 
     pub root-whole : length minima ≡ minimaSize
@@ -90,16 +90,16 @@ module _ {m q clip : ℕ} {numbers : List ℤ} (h : SearchAsked m q clip numbers
 
   -- What the walk from the root has kept at the end
   module _ (allowance : ℕ) {count : ℕ} {stopped : Bool} {t : Taken}
-      (e : keptOf count stopped t ≡ below (vectorAt m q clip numbers) allowance m 0 0 (fresh 24)) where
+      (e : keptOf count stopped t ≡ below (vectorAt m q clip numbers) allowance m 0 0 (fresh mostBits)) where
     -- has low minima
     pub end-low : MinimaLow (t .zeros) (t .ones)
     end-low = record {
-      zeros-low = λ i. minima-low (vectorAt m q clip numbers) allowance m 0 0 24 e i .0;
-      ones-low = λ i. minima-low (vectorAt m q clip numbers) allowance m 0 0 24 e i .1;
+      zeros-low = λ i. minima-low (vectorAt m q clip numbers) allowance m 0 0 mostBits e i .0;
+      ones-low = λ i. minima-low (vectorAt m q clip numbers) allowance m 0 0 mostBits e i .1;
     }
 
     -- and is the model's answer
-    pub end-answered : (before after : List ℤ) → length before ≡ 24
+    pub end-answered : (before after : List ℤ) → length before ≡ mostBits
         → after ≡ filled (valueOf (vectorAt m q clip numbers) (takenOf 0 0 (t .zeros) (t .ones))) (m * q) before
         → Answered (vectorAt m q clip numbers) allowance stopped count (t .label) before after
     end-answered before after room f = record {
@@ -115,17 +115,17 @@ module _ {m q clip : ℕ} {numbers : List ℤ} (h : SearchAsked m q clip numbers
         bits : m * q ≡ labelBits v
         bits = bits-are m q clip numbers
 
-        wide : labelBits v ≤ 24
+        wide : labelBits v ≤ mostBits
         wide = omega (arith, h .vector .label, bits)
 
-        from : keptOf count stopped t ≡ below v allowance (length (v .rows)) 0 0 (fresh 24)
-        from = e ∙ ap (λ (l : ℕ). below v allowance l 0 0 (fresh 24)) (sym (rows-count m q numbers))
+        from : keptOf count stopped t ≡ below v allowance (length (v .rows)) 0 0 (fresh mostBits)
+        from = e ∙ ap (λ (l : ℕ). below v allowance l 0 0 (fresh mostBits)) (sym (rows-count m q numbers))
 
         same : answerOf stopped count (t .label) (map (valueOf v t) (places v)) ≡ answer v allowance
-        same = answered v (ranged _ _ _ _ h) allowance 24 wide from
+        same = answered v (ranged _ _ _ _ h) allowance mostBits wide from
 
         front : filled (valueOf v t) (labelBits v) before ≡ answer v allowance .result .soft ++ drop (labelBits v) before
-        front = soft-is v (ranged _ _ _ _ h) allowance 24 wide from before (omega (arith, wide, room))
+        front = soft-is v (ranged _ _ _ _ h) allowance mostBits wide from before (omega (arith, wide, room))
 
         values : filled (valueOf v (takenOf 0 0 (t .zeros) (t .ones))) (m * q) before ≡ filled (valueOf v t) (m * q) before
         values = filled-same _ _ (m * q) before (λ i k. value-same v (takenOf 0 0 (t .zeros) (t .ones)) t refl refl i)

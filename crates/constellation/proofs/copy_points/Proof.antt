@@ -1,14 +1,14 @@
 -- That the table's numbers are the points of the Gray rule is computed, once for the whole table. The loop fills in one point after the other.
 use borrow.Author.Needs.{sfits-of}
 use mathlib.Core.Path.{_≡_, refl, ap₂, _∙_}
-use Prim.Native.Nat.{ℕ, _+_, _-_, _*_, _≤_, _<_}
+use Prim.Native.Nat.{_-_, _≤_}
 use native.Mathlib.Omega.{arith}
 use mir.Syntax.{w8}
 use mir.Facts.{toZ-ofZ}
 use Rattle.model.specs.Constellation.{amplitude, bitsOf, point}
 use Rattle.model.specs.Soft.{upFrom}
-use Rattle.constellation.specs.Points.{complexOf, pointIn, FilledTo}
-use Rattle.constellation.proofs.Tables.{Right, table-at, none-filled, filled-more}
+use Rattle.constellation.specs.Points.{complexOf, FilledTo}
+use Rattle.constellation.proofs.Tables.{Right, table-points, none-filled, filled-more}
 use Rattle.constellation.proofs.copy_points.Statement.{statement}
 use Rattle.constellation.proofs.copy_points.Tie as tie
 
@@ -29,7 +29,7 @@ loop-again c =
       l .loop .inv .1,
       filled-more (l .loop .inv .2) (omega (arith, c .before .before .loop-test .taken, l .before .pre, l .loop .inv .2 .size)) _ _
           (ap₂ complexOf (toZ-ofZ {w = w8} (sfits-of (c .before .points .given))) (toZ-ofZ {w = w8} (sfits-of (c .points2 .given)))
-          ∙ table-at (l .loop .inv .1) (l .loop .s) (c .before .before .loop-test .taken)),
+          ∙ table-points (l .loop .inv .1) .each (l .loop .s) (c .before .before .loop-test .taken)),
     )
 
 returns : tie.Need-returns Inv-loop μ-loop

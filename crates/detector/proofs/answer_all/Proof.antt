@@ -3,7 +3,6 @@ use Prim.Native.Nat.{_-_, _≤_}
 use mathlib.Core.Path.{_≡_, refl, sym, _∙_}
 use native.Mathlib.Omega.{arith}
 use lib.ListN.{length}
-use borrow.Author.Needs.{needs}
 use Rattle.constellation.specs.Points.{Points}
 use Rattle.constellation.proofs.Tables.{points-of}
 use Rattle.search.specs.Limits.{keyPlaces}
@@ -27,7 +26,7 @@ fill-requires c κs =
 
 -- The points of the record's constellation
 pointed : (c : tie.After-fill Inv-loop μ-loop) → Points (c .before .before .before .args .h .width) (c .fill .last .1 .0)
-pointed c = points-of refl (c .fill .ensures)
+pointed c = points-of (c .fill .ensures)
 
 write-head-requires : tie.Need-write-head-requires Inv-loop μ-loop
 write-head-requires c κs =

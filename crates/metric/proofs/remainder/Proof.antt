@@ -76,7 +76,6 @@ term-requires c κs =
     let e = entry-within (s .pre .0) (s .args .level) (s .pre .1) t (omega (arith, h)) in
     let p = point-parts (s .args .q) (c .symbol-at .result) (s .pre .0 .bits) _ _ (s .pre .2 .each (c .symbol-at .result) (below c)) in
     record {
-      table = s .pre .2 .size;
       below = omega (arith, below c, pow-mono (s .pre .0 .bits));
       point-re = p .0;
       point-im = p .1;

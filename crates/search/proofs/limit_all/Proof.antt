@@ -4,6 +4,7 @@ use mathlib.Core.Path.{_≡_, refl, sym, ap, ap₂, _∙_}
 use mathlib.Core.List.{List, _++_}
 use native.Mathlib.Omega.{arith}
 use lib.ListN.{length, set, take, take-append-drop, length-drop}
+use Rattle.model.specs.Block.{mostBits}
 use Rattle.metric.specs.Parts.{filled}
 use Rattle.metric.proofs.Filled.{filled-more, filled-length}
 use Rattle.pruning.specs.Program.{Taken, takenIn, limitsOf}
@@ -16,21 +17,21 @@ abbrev Inv-loop : tie.InvT-loop
 Inv-loop task numbers best minima₀ n i₀ minima i =
     (n ≡ task .streams * task .width) × (i ≤ n)
     × (minima
-    ≡ take 48 minima₀ ++ filled (limitAt (vectorFor task numbers) (takenIn (best .label) (best .metric) minima₀)) i (limitsOf minima₀))
+    ≡ take (2 * mostBits) minima₀ ++ filled (limitAt (vectorFor task numbers) (takenIn (best .label) (best .metric) minima₀)) i (limitsOf minima₀))
 
 abbrev μ-loop : tie.MeasureT-loop
 μ-loop task numbers best minima₀ n i₀ minima i = n - i
 
 loop-holds : tie.Need-loop-holds Inv-loop μ-loop
 unfolding filled
-loop-holds c = (refl, omega arith, sym (take-append-drop 48 _))
+loop-holds c = (refl, omega arith, sym (take-append-drop (2 * mostBits) _))
 
 whole : (c : tie.At-loop Inv-loop μ-loop) → length (c .loop .minima) ≡ minimaSize
 whole c =
     let s = c .before .before .before in
     let l = s .args .minima .now in
     ap length (c .loop .inv .2)
-    ∙ limits-whole l (omega (arith, s .pre .2)) _ (filled-length _ _ (limitsOf l) ∙ length-drop 48 l) ∙ s .pre .2
+    ∙ limits-whole l (omega (arith, s .pre .2)) _ (filled-length _ _ (limitsOf l) ∙ length-drop (2 * mostBits) l) ∙ s .pre .2
 
 loop-again : tie.Need-loop-again Inv-loop μ-loop
 loop-again c =
@@ -39,14 +40,14 @@ loop-again c =
     let a = s .args in
     let v = vectorFor (a .task) (a .numbers .now) in
     let f = limitAt v (takenIn (a .best .label) (a .best .metric) (a .minima .now)) in
-    let wide : 48 ≤ length (a .minima .now) = omega (arith, s .pre .2) in
+    let wide : 2 * mostBits ≤ length (a .minima .now) = omega (arith, s .pre .2) in
     let kept = taken-kept (a .minima .now) wide _ (a .best .label) (a .best .metric) in (
       refl,
       omega arith,
-      ap₂ (λ (x : List ℕ) (u : ℕ). set x (48 + l .loop .i) u) (l .loop .inv .2)
+      ap₂ (λ (x : List ℕ) (u : ℕ). set x (2 * mostBits + l .loop .i) u) (l .loop .inv .2)
           (c .limit-at .ensures ∙ ap (λ (t : Taken). limitAt v t (l .loop .i)) (ap (takenIn (a .best .label) (a .best .metric)) (l .loop .inv .2) ∙ kept))
           ∙ limit-set (a .minima .now) wide _ (l .loop .i) _
-          ∙ ap (λ (x : List ℕ). take 48 (a .minima .now) ++ x) (filled-more f (l .loop .i) (limitsOf (a .minima .now))),
+          ∙ ap (λ (x : List ℕ). take (2 * mostBits) (a .minima .now) ++ x) (filled-more f (l .loop .i) (limitsOf (a .minima .now))),
     )
 
 pub limit-all-spec : {M : Type 1} → statement M

@@ -2,7 +2,6 @@
 use Prim.Native.Nat.{ℕ, _+_, _≤_, _<_, _*_, _^_, min}
 use mathlib.Core.Bool.{Bool, cond}
 use mathlib.Core.Path.{_≡_, sym, ap, _∙_}
-use native.Mathlib.Nat.{mul-le-mul}
 use native.Mathlib.Omega.{arith}
 use borrow.Author.Needs.{needs, sfits-of}
 use lib.IntN.{ℤ, natAbs}
@@ -10,6 +9,7 @@ use lib.ListN.{getD}
 use mir.Syntax.{w64}
 use mir.Val.{SFits}
 use mir.Facts.{toZ-ofZ}
+use Rattle.model.specs.Block.{mostBits}
 use Rattle.model.specs.Metric.{Vector, labelBits, priorAt}
 use Rattle.block.proofs.Places.{all-priors-at, rows-count}
 use Rattle.metric.specs.Parts.{bitOf}
@@ -18,8 +18,8 @@ use Rattle.search.specs.Limits.{vectorAt, upOf, limitAt}
 use Rattle.search.proofs.limit_at.Statement.{statement}
 use Rattle.search.proofs.limit_at.Tie as tie
 
-few : (c : tie.Start) → c .args .task .streams * c .args .task .width ≤ 24
-few c = omega (arith, mul-le-mul (c .pre .0 .vector .streams) (c .pre .0 .vector .bits))
+few : (c : tie.Start) → c .args .task .streams * c .args .task .width ≤ mostBits
+few c = c .pre .0 .vector .label
 
 small : (c : tie.After-prior-at) → natAbs (c .prior-at .result) < 2 ^ 31
 small c =

@@ -3,6 +3,7 @@ use mathlib.Core.Path.{_≡_, refl, ap, _∙_}
 use borrow.Author.Needs.{needs}
 use mathlib.Core.Bool.{false}
 use native.Mathlib.Nat.{le-refl, le-trans}
+use Rattle.model.specs.Block.{mostBits}
 use Rattle.pruning.specs.Program.{Taken, keptOf, takenIn, fresh, below}
 use Rattle.search.specs.Limits.{vectorFor}
 use Rattle.search.proofs.Values.{keys-many, root-fresh, root-whole, root-asked, end-low, end-answered}
@@ -20,7 +21,7 @@ walked : (c : tie.After-walk)
     → let s = c .before .before .before .before .before .before .before .before .before .before in
     keptOf (c .walk .result .count) (c .walk .result .stopped)
     (takenIn (c .walk .result .label) (c .walk .result .best) (c .walk .last .1 .1 .1 .1 .1 .1 .0))
-    ≡ below (vectorFor (s .args .task) (s .args .numbers .now)) (s .args .task .allowance) (s .args .task .streams) 0 0 (fresh 24)
+    ≡ below (vectorFor (s .args .task) (s .args .numbers .now)) (s .args .task .allowance) (s .args .task .streams) 0 0 (fresh mostBits)
 walked c =
     let s = c .before .before .before .before .before .before .before .before .before .before in
     let t = s .args .task in

@@ -38,7 +38,7 @@ search-at-requires c κs =
       omega (arith, n .count-at3 .ensures),
       refl,
       omega (arith, l .loop .inv .1),
-      rw (q .count-at .ensures) at (points-of refl (f .fill .ensures)),
+      rw (q .count-at .ensures) at (points-of (f .fill .ensures)),
     )
 
 loop-again : tie.Need-loop-again Inv-loop μ-loop
