@@ -3,7 +3,7 @@
 use Prim.Native.Nat.{ℕ, zero, suc, _+_, _-_, _*_, _/_, _%_, _^_, _≤_, _<_}
 use mathlib.Core.Path.{_≡_, refl, sym, _∙_, ap, ap₂, subst}
 use mathlib.Core.Logic.{_≢_, ⊎-elim}
-use mathlib.Core.List.{List, map}
+use mathlib.Core.List.{List, [], map}
 use native.Mathlib.Nat.{eq-or-lt-of-le, not-suc-le-zero, mul-assoc, mul-comm, mul-div-cancel, mod-eq-of-lt, mul-lt-mul-of-pos-right}
 use native.Mathlib.Omega.{arith}
 use lib.IntN.{ℤ, pos, _+ℤ_}
@@ -21,16 +21,21 @@ use Rattle.constellation.specs.Points.{complexOf, axisTable, pointIn, Po
 axis : ℕ → List ℤ
 axis w = map (λ g. amplitude (bitsOf w g)) (upFrom 0 (2 ^ w))
 
-axis-is : (w : ℕ) → w ≤ 3 → take (2 ^ w) (drop (2 ^ w) axisTable) ≡ axis w
-unfolding axis upFrom amplitude bitsOf
-axis-is zero h = refl
-axis-is (suc zero) h = refl
-axis-is (suc (suc zero)) h = refl
-axis-is (suc (suc (suc zero))) h = refl
-axis-is (suc (suc (suc (suc w)))) h = absurd (omega arith)
+-- The places of the table that an axis of w bits has
+part : ℕ → List ℤ
+part w = take (2 ^ w) (drop (2 ^ w) axisTable)
+
+-- The test of the whole table
+axes-right : map part (upFrom 0 4) ≡ map axis (upFrom 0 4)
+unfolding part axis upFrom amplitude bitsOf
+axes-right = refl
+
+axis-is : (w : ℕ) → w ≤ 3 → part w ≡ axis w
+axis-is w h =
+    sym (getD-places part [] 4 w (omega arith)) ∙ ap (λ (l : List (List ℤ)). getD l w []) axes-right ∙ getD-places axis [] 4 w (omega arith)
 
 pub axis-at : (w g : ℕ) → w ≤ 3 → g < 2 ^ w → getD axisTable (2 ^ w + g) (pos 0) ≡ amplitude (bitsOf w g)
-unfolding axis
+unfolding part axis
 axis-at w g h k =
     sym (getD-take (2 ^ w) (drop (2 ^ w) axisTable) g (pos 0) k ∙ getD-drop (2 ^ w) axisTable g (pos 0))
     ∙ ap (λ (l : List ℤ). getD l g (pos 0)) (axis-is w h) ∙ getD-places (λ i. amplitude (bitsOf w i)) (pos 0) (2 ^ w) g k
