@@ -1,5 +1,6 @@
 -- The room is small at the largest M, Q and N.
 use Prim.Native.Nat.{_+_, _*_, _≤_}
+use mathlib.Core.Path.{refl}
 use native.Mathlib.Nat.{mul-le-mul}
 use native.Mathlib.Omega.{arith}
 use borrow.Author.Needs.{needs}
@@ -22,4 +23,4 @@ room-spec =
     (λ c. omega (arith, answer-few c))
     (λ c. omega (arith, all-few c))
     (λ c. omega (arith, all-few c))
-    (λ c. search needs))
+    (λ c. refl))
