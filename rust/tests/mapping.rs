@@ -1,6 +1,6 @@
-//! IEEE 802.11's encoding tables, typed from the standard (BPSK, QPSK, 16-QAM and 64-QAM encoding tables of the OFDM PHY; 256-QAM, which
-//! the newer PHYs add, b0 b1 b2 b3 for I and b4 b5 b6 b7 for Q), against the constellation of both detectors. A row of an axis: the input
-//! bits and I out or Q out, by rising amplitude.
+//! IEEE 802.11's encoding tables (BPSK, QPSK, 16-QAM and 64-QAM of the OFDM PHY; 256-QAM, which the newer PHYs add, b0 b1 b2 b3 for I and
+//! b4 b5 b6 b7 for Q), typed from the standard's pattern with no copy of it at hand, against the constellation of both detectors. A row of an
+//! axis: the input bits and I out or Q out, by rising amplitude.
 
 use reference::block::{Block, Complex, Vector};
 use reference::{fast, plain};

@@ -15,30 +15,29 @@ use Rattle.model.specs.Soft.{upFrom}
 use Rattle.model.proofs.Gray.{gray-neighbours}
 use Rattle.model.proofs.Lists.{getD-places}
 use Rattle.model.proofs.Numbers.{length-bitsOf, take-bits, drop-bits, low-bits}
-use Rattle.constellation.specs.Points.{complexOf, axisTable, pointIn, Points, FilledTo, Filled}
+use Rattle.constellation.specs.Points.{complexOf, Axes, pointIn, Points, FilledTo, Filled}
 
 -- The amplitudes of an axis of w bits, by rising label
-axis : ℕ → List ℤ
+unfoldable pub axis : ℕ → List ℤ
 axis w = map (λ g. amplitude (bitsOf w g)) (upFrom 0 (2 ^ w))
 
--- The places of the table that an axis of w bits has
-part : ℕ → List ℤ
-part w = take (2 ^ w) (drop (2 ^ w) axisTable)
+-- The test of a whole table of axes: the places of w bits are the amplitudes of that axis
+pub record AxesRight (table : List ℤ) : Type 0 where
+  pub axes : map (λ w. take (2 ^ w) (drop (2 ^ w) table)) (upFrom 0 4) ≡ map axis (upFrom 0 4)
 
--- The test of the whole table
-axes-right : map part (upFrom 0 4) ≡ map axis (upFrom 0 4)
-unfolding part axis upFrom amplitude bitsOf
-axes-right = refl
-
-axis-is : (w : ℕ) → w ≤ 3 → part w ≡ axis w
-axis-is w h =
-    sym (getD-places part [] 4 w (omega arith)) ∙ ap (λ (l : List (List ℤ)). getD l w []) axes-right ∙ getD-places axis [] 4 w (omega arith)
-
-pub axis-at : (w g : ℕ) → w ≤ 3 → g < 2 ^ w → getD axisTable (2 ^ w + g) (pos 0) ≡ amplitude (bitsOf w g)
-unfolding part axis
-axis-at w g h k =
-    sym (getD-take (2 ^ w) (drop (2 ^ w) axisTable) g (pos 0) k ∙ getD-drop (2 ^ w) axisTable g (pos 0))
-    ∙ ap (λ (l : List ℤ). getD l g (pos 0)) (axis-is w h) ∙ getD-places (λ i. amplitude (bitsOf w i)) (pos 0) (2 ^ w) g k
+-- A table that passes it has each amplitude
+pub table-axes : {table : List ℤ} → AxesRight table → Axes table
+unfolding axis
+table-axes {table} right = record {
+  each = λ w g h k.
+      sym (getD-take (2 ^ w) (drop (2 ^ w) table) g (pos 0) k ∙ getD-drop (2 ^ w) table g (pos 0))
+      ∙ ap (λ (l : List ℤ). getD l g (pos 0)) (part w h) ∙ getD-places (λ i. amplitude (bitsOf w i)) (pos 0) (2 ^ w) g k;
+}
+  where
+    part : (w : ℕ) → w ≤ 3 → take (2 ^ w) (drop (2 ^ w) table) ≡ axis w
+    part w h =
+        sym (getD-places (λ n. take (2 ^ n) (drop (2 ^ n) table)) [] 4 w (omega arith))
+        ∙ ap (λ (l : List (List ℤ)). getD l w []) (right .axes) ∙ getD-places axis [] 4 w (omega arith)
 
 -- A symbol's point, by the two halves of its label
 pub point-halves : (q s : ℕ) → point (bitsOf q s) ≡ complexOf (amplitude (bitsOf (q - q / 2) (s / 2 ^ (q / 2)))) (amplitude (bitsOf (q / 2) (s % 2 ^ (q / 2))))

@@ -1,10 +1,10 @@
 -- The points of a constellation as an array: the real and the imaginary part of each symbol's point, by rising label.
 use Prim.Native.Nat.{ℕ, _+_, _*_, _^_, _≤_, _<_}
 use mathlib.Core.Path.{_≡_}
-use mathlib.Core.List.{List, [], _∷_}
-use lib.IntN.{ℤ, pos, negsuc}
+use mathlib.Core.List.{List}
+use lib.IntN.{ℤ, pos}
 use lib.ListN.{length, getD}
-use Rattle.model.specs.Constellation.{Complex, bitsOf, point}
+use Rattle.model.specs.Constellation.{Complex, amplitude, bitsOf, point}
 use Rattle.model.specs.Block.{mostWidth}
 
 abbrev pub complexOf : ℤ → ℤ → Complex
@@ -32,8 +32,6 @@ pub record FilledTo (q k : ℕ) (old new : List ℤ) : Type 0 where
 abbrev pub Filled : ℕ → List ℤ → List ℤ → Type 0
 Filled q old new = FilledTo q (2 ^ q) old new
 
--- The table of the axes of up to 3 bits: those of w bits stand from place 2 ^ w on
-abbrev pub axisTable : List ℤ
-axisTable =
-    pos 0 ∷ pos 0 ∷ negsuc 0 ∷ pos 1 ∷ negsuc 2 ∷ negsuc 0 ∷ pos 3 ∷ pos 1 ∷ negsuc 6 ∷ negsuc 4 ∷ negsuc 0 ∷ negsuc 2 ∷ pos 7 ∷ pos 5 ∷ pos 1
-    ∷ pos 3 ∷ []
+-- A table has the amplitudes of the axes of up to 3 bits: those of w bits stand from place 2 ^ w on, by rising label
+pub record Axes (table : List ℤ) : Type 0 where
+  pub each : (w g : ℕ) → w ≤ 3 → g < 2 ^ w → getD table (2 ^ w + g) (pos 0) ≡ amplitude (bitsOf w g)

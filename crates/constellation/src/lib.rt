@@ -6,7 +6,7 @@ ghost use Prim.Native.Nat.{_+_, _*_, _-_, _/_, _%_, _<_, _≤_, _^_};
 ghost use lib.ListN.{length};
 ghost use Rattle.model.specs.Constellation.{amplitude, bitsOf};
 ghost use Rattle.model.specs.Block.{mostWidth, widths, _∈_};
-ghost use Rattle.constellation.specs.Points.{places, axisTable, Filled};
+ghost use Rattle.constellation.specs.Points.{places, Axes, Filled};
 
 // How many numbers the points of the widest symbols are: 256 real parts and 256 imaginary ones.
 pub const PLACES: usize = 512;
@@ -17,7 +17,7 @@ const AXES: [i8; 16] = [0, 0, -1, 1, -3, -1, 3, 1, -7, -5, -1, -3, 7, 5, 1, 3];
 
 // The amplitude of an axis label of up to 3 bits.
 fn amplitude(axes: &[i8; 16], bits: usize, label: usize) -> i8
-    requires { ⌜ (now axes ≡ axisTable) × (bits ≤ 3) × (label < 2 ^ bits) ⌝ }
+    requires { ⌜ Axes (now axes) × (bits ≤ 3) × (label < 2 ^ bits) ⌝ }
     ensures { λ r. ⌜ r ≡ amplitude (bitsOf bits label) ⌝ }
 {
     axes[(1 << bits) + label]

@@ -1,15 +1,13 @@
 -- The label's place is within the table, and the table has the amplitude there.
 use borrow.Author.Needs.{needs, sfits-of}
 use Prim.Native.Nat.{ℕ, _+_, _*_, _%_, _^_, _<_}
-use mathlib.Core.Path.{_≡_, _∙_, ap₂}
-use mathlib.Core.List.{List}
+use mathlib.Core.Path.{_≡_, _∙_, ap}
 use native.Mathlib.Omega.{arith}
-use lib.IntN.{ℤ, pos}
+use lib.IntN.{pos}
 use lib.ListN.{getD}
 use lib.Pow.{shl-exact, pow-mono}
 use mir.Syntax.{w8}
 use mir.Facts.{toZ-ofZ}
-use Rattle.constellation.proofs.Tables.{axis-at}
 use Rattle.constellation.proofs.amplitude.Statement.{statement}
 use Rattle.constellation.proofs.amplitude.Tie as tie
 
@@ -23,8 +21,8 @@ returns : tie.Need-returns
 returns c =
     let s = c .before in
     toZ-ofZ {w = w8} (sfits-of (c .result .given))
-    ∙ ap₂ (λ (l : List ℤ) (n : ℕ). getD l (n + s .args .label) (pos 0)) (s .pre .0) (first s)
-    ∙ axis-at (s .args .bits) (s .args .label) (s .pre .1) (s .pre .2)
+    ∙ ap (λ (n : ℕ). getD (s .args .axes .now) (n + s .args .label) (pos 0)) (first s)
+    ∙ s .pre .0 .each (s .args .bits) (s .args .label) (s .pre .1) (s .pre .2)
 
 pub amplitude-spec : {M : Type 1} → statement M
 amplitude-spec = tie.close (tie.spec (λ c. search needs) (λ c. omega (arith, inside c)) (λ c. inside c) returns)

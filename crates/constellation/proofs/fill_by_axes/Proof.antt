@@ -8,20 +8,22 @@ use lib.Pow.{shl-exact, pow-mono, pow-pos}
 use mir.Syntax.{w8}
 use mir.Facts.{toZ-ofZ}
 use Rattle.model.specs.Constellation.{amplitude, bitsOf}
+use Rattle.model.specs.Soft.{upFrom}
 use Rattle.model.proofs.Numbers.{first-half}
-use Rattle.constellation.specs.Points.{complexOf, axisTable, FilledTo}
-use Rattle.constellation.proofs.Tables.{point-halves, none-filled, filled-more}
+use Rattle.constellation.specs.Points.{complexOf, Axes, FilledTo}
+use Rattle.constellation.proofs.Tables.{axis, table-axes, point-halves, none-filled, filled-more}
 use Rattle.constellation.proofs.fill_by_axes.Statement.{statement}
 use Rattle.constellation.proofs.fill_by_axes.Tie as tie
 
 abbrev Inv-loop : tie.InvT-loop
-Inv-loop q points₀ axes n s₀ points s = (n ≡ 2 ^ q) × (axes ≡ axisTable) × (s ≤ n) × FilledTo q s points₀ points
+Inv-loop q points₀ axes n s₀ points s = (n ≡ 2 ^ q) × Axes axes × (s ≤ n) × FilledTo q s points₀ points
 
 abbrev μ-loop : tie.MeasureT-loop
 μ-loop q points₀ axes n s₀ points s = n - s
 
 loop-holds : tie.Need-loop-holds Inv-loop μ-loop
-loop-holds c = (omega (arith, shl-exact {a = 1} 1 (c .args .q) 64 (omega arith) (omega (arith, c .pre .0))), refl, omega arith, none-filled (c .args .q) _)
+unfolding axis upFrom amplitude bitsOf
+loop-holds c = (omega (arith, shl-exact {a = 1} 1 (c .args .q) 64 (omega arith) (omega (arith, c .pre .0))), table-axes (record { axes = refl }), omega arith, none-filled (c .args .q) _)
 
 -- A symbol is within the array
 inside : (c : tie.In-loop Inv-loop μ-loop) → 2 * c .before .loop .s + 1 < 512
