@@ -13,6 +13,25 @@ list:
 	@rt check list > build/list.log 2>&1 || { cat build/list.log; exit 1; }
 	@target/bin/list < "$(RECORD)"
 
+# A record from a text of its whole numbers, and the way back: make record NUMBERS=path RECORD=path, make numbers RECORD=path
+record:
+	@test -n "$(NUMBERS)" || { echo "Which text? For example: make record NUMBERS=samples/bench.numbers RECORD=build/bench.rec"; exit 2; }
+	@test -n "$(RECORD)" || { echo "Which record is to be made? For example: make record NUMBERS=$(NUMBERS) RECORD=build/bench.rec"; exit 2; }
+	@test -f "$(NUMBERS)" || { echo "There is no file $(NUMBERS)."; exit 2; }
+	@$(MAKE) --silent build/record
+	@build/record -o "$(RECORD)" "$(NUMBERS)"
+
+numbers:
+	@test -n "$(RECORD)" || { echo "Which record? For example: make numbers RECORD=samples/priors.rec"; exit 2; }
+	@test -f "$(RECORD)" || { echo "There is no file $(RECORD)."; exit 2; }
+	@$(MAKE) --silent build/record
+	@build/record -n "$(RECORD)"
+
+# The program for both. It is made again, proofs first, when something is newer that it or the library is made from.
+build/record: crates.txt $(shell find crates -type f) .ci/lib include/geckoneedle.h $(wildcard hosts/*.[ch]) hosts/build.sh
+	@.ci/lib
+	@hosts/build.sh
+
 # The static library and its header, in build/.
 lib:
 	.ci/lib
@@ -42,4 +61,4 @@ figures: lib
 
 BENCH = cargo run --quiet --offline --profile measure --manifest-path rust/Cargo.toml -p linked --bin bench
 
-.PHONY: run list lib host test bench instructions figures
+.PHONY: run list record numbers lib host test bench instructions figures

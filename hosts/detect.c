@@ -11,31 +11,11 @@
 
 #include "geckoneedle.h"
 #include "reading.h"
-
-/* Document 01's table and document 02's 15, by refusal number. */
-static const char *const REFUSALS[] = {
-    "",
-    "the first four bytes are missing or are not 43 42 52 31",
-    "the record ends before the last group of a number",
-    "a number has four groups and no last one, or ends in a group of 0 that it does not need",
-    "the number of streams M is not 1 to 4",
-    "the bits of a symbol Q are not 1, 2, 4, 6 or 8",
-    "the number of vectors N is not 1 to 64",
-    "the clip C is above 16777215",
-    "the share D is not M to 17043520",
-    "an entry on R's diagonal is not 1 to 2047",
-    "a part of an entry right of R's diagonal is not -2047 to 2047",
-    "a part of y is not -131071 to 131071",
-    "a prior is not -1048575 to 1048575",
-    "bytes follow the last prior",
-    "the reply buffer is shorter than 7 + N x (9 + 4 x M x Q) bytes",
-    "the bits of a symbol Q are 8, which at most three streams may have, and M is 4",
-};
+#include "refusals.h"
 
 static void print_refusal(const char *path, int64_t number)
 {
-    int is_known = number >= GECKONEEDLE_OPENING && number <= GECKONEEDLE_FOUR_WIDE;
-    printf("%s: refused by %" PRId64 ": %s\n", path, number, is_known ? REFUSALS[number] : "a refusal that this program does not know");
+    printf("%s: refused by %" PRId64 ": %s\n", path, number, refusal_words(number));
 }
 
 /* A reply that is being read. Reading past its end gives 0 and marks it as broken. */

@@ -8,8 +8,7 @@
 #define TEXT(word) #word
 #define TEXT_OF(macro) TEXT(macro)
 
-/* Says what is wrong with a file, behind whatever has been printed so far. Returns 1. */
-static int complain(const char *path, const char *what, int error)
+int complain(const char *path, const char *what, int error)
 {
     fflush(stdout);
     if (error != 0) {

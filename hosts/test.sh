@@ -1,10 +1,13 @@
 #!/bin/sh
-# Tests the host programs: builds them, and holds what they print and their exit status to hosts/expected, which the Rust reference makes
-# (the gate checks that it still does). Says what is wrong and ends with status 1, or ends with 0.
+# Tests the host programs: builds them, and holds what they print and their exit status to samples/ and hosts/expected. The Rust reference makes
+# these (the gate checks that it still does); only hosts/expected/lists was typed from the documents. Says what is wrong and ends with status 1,
+# or ends with 0.
 set -eu
 cd "$(dirname "$0")/.."
+made="example stopped priors full wide"
+written="bench tie points"
 samples="samples/example.rec samples/stopped.rec samples/priors.rec samples/full.rec samples/wide.rec samples/refused.rec
-    samples/refused-wide.rec"
+    samples/refused-wide.rec samples/bench.rec samples/tie.rec samples/points.rec"
 
 fail() {
     echo "hosts: $1"
@@ -29,6 +32,44 @@ same() {
 # complains TEXT WHAT: asks that standard error has just this line.
 complains() {
     [ "$(cat build/complaints)" = "$1" ] || fail "$2: standard error says '$(cat build/complaints)' and not '$1'"
+}
+
+# The next three run build/record, under a checker if one is named.
+
+# write_samples CHECKER...: the record of each accepted sample's text.
+write_samples() {
+    for name in $made $written; do
+        expect 0 "the record of $name" "$@" build/record "samples/$name.numbers"
+        complains "" "the record of $name"
+        same "samples/$name.rec" build/printed "the record of $name"
+    done
+}
+
+# read_samples CHECKER...: the numbers of each accepted sample's record: word for word the reference's text, or where the sample's own text was
+# written by hand, one that gives the same record.
+read_samples() {
+    for name in $made $written; do
+        expect 0 "the numbers of $name" "$@" build/record -n "samples/$name.rec"
+        complains "" "the numbers of $name"
+        cp build/printed "build/$name.numbers"
+        expect 0 "the record of the numbers of $name" build/record "build/$name.numbers"
+        same "samples/$name.rec" build/printed "the record of the numbers of $name"
+    done
+    for name in $made; do
+        same "samples/$name.numbers" "build/$name.numbers" "the numbers of $name"
+    done
+}
+
+# refuse_lists CHECKER...: each text of hosts/expected/lists, written there as printf takes it, and behind a bar what is said of it. No file is
+# made.
+refuse_lists() {
+    rm -f build/none.rec
+    while IFS='|' read -r text words; do
+        printf '%b' "$text" >build/list.numbers
+        expect 1 "the list '$text'" "$@" build/record -o build/none.rec build/list.numbers
+        complains "build/list.numbers: $words" "the list '$text'"
+        ! [ -e build/none.rec ] || fail "the list '$text': a record is made"
+    done <hosts/expected/lists
 }
 
 hosts/build.sh || fail "the host programs do not build"
@@ -64,23 +105,113 @@ complains "build/large.rec: the file is too large, a record has at most 8207 byt
 expect 2 "no file" build/detect
 expect 2 "no buffer length" build/detect -b 41x samples/example.rec
 
+# Records from numbers, and numbers from records.
+write_samples
+read_samples
+refuse_lists
+expect 1 "the numbers of refused" build/record samples/refused.numbers
+complains "samples/refused.numbers: line 13, column 1: number 25 is 1048576: vector 2, prior of stream 2, bit 1:\
+ it must be -1048575 to 1048575 (refused by 12)" "the numbers of refused"
+[ ! -s build/printed ] || fail "of refused numbers something is printed"
+expect 1 "the numbers of refused-wide" build/record samples/refused-wide.numbers
+complains "samples/refused-wide.numbers: line 1, column 3: number 2 is 8: Q, the bits of a symbol:\
+ it must be 1, 2, 4 or 6, since at most three streams may have 8, and M is 4 (refused by 15)" "the numbers of refused-wide"
+
+# The example in other words: signs, zeros in front, tabs, carriage returns, a comment right behind a number, no end of the last line.
+printf '+2\t01 %01000d 10 3# sizes\r\n1 1 -0 1\r\n1 0 -1 0 0 0 \r\n\r\n\t# again\n1 1 0 1 1 0 -0001 +0 0 0' 2 >build/list.numbers
+expect 0 "the example in other words" build/record build/list.numbers
+same samples/example.rec build/printed "the example in other words"
+
+# One number more than any record has, and what is behind it does not matter.
+{ cat samples/full.numbers && echo "4 abc"; } >build/list.numbers
+expect 1 "a number more than any record has" build/record build/list.numbers
+complains "build/list.numbers: line 642, column 1: number 3078 follows the last prior; M, Q and N call for 3077 numbers (refused by 13)" \
+    "a number more than any record has"
+
+# Standard input; and a file for the record, which is made, replaced, or left as it is.
+expect 0 "standard input" build/record <samples/bench.numbers
+same samples/bench.rec build/printed "standard input"
+printf '2 1 2 10 1' >build/list.numbers
+expect 1 "refused standard input" build/record <build/list.numbers
+complains "standard input: line 1, column 10: number 5 is 1: D, the share: it must be M to 17043520, and M is 2 (refused by 8)" \
+    "refused standard input"
+rm -f build/kept.rec
+expect 0 "a new record" build/record -o build/kept.rec samples/full.numbers
+same samples/full.rec build/kept.rec "a new record"
+expect 0 "a record in another's place" build/record -o build/kept.rec <samples/example.numbers
+same samples/example.rec build/kept.rec "a record in another's place"
+[ ! -s build/printed ] || fail "with -o something is printed"
+for text in samples/refused.numbers build/missing.numbers samples; do
+    expect 1 "a record that is not made" build/record -o build/kept.rec "$text"
+    same samples/example.rec build/kept.rec "a record that is not made"
+done
+
+# Files that cannot be read or written, and wrong arguments.
+expect 1 "a missing text" build/record build/missing.numbers
+complains "build/missing.numbers: the file cannot be opened: No such file or directory" "a missing text"
+expect 1 "a folder for a text" build/record samples
+complains "samples: the file cannot be read: Is a directory" "a folder for a text"
+expect 1 "a folder for a record" build/record -o samples samples/example.numbers
+complains "samples: the record cannot be written: Is a directory" "a folder for a record"
+expect 1 "a record in a missing folder" build/record -o build/missing/kept.rec samples/example.numbers
+complains "build/missing/kept.rec: the record cannot be written: No such file or directory" "a record in a missing folder"
+for name in example full; do
+    expect 1 "a full disk" build/record -o /dev/full "samples/$name.numbers"
+    complains "/dev/full: the record cannot be written: No space left on device" "a full disk"
+    expect 1 "a full disk behind standard output" sh -c "build/record samples/$name.numbers >/dev/full"
+    complains "standard output: the record cannot be written: No space left on device" "a full disk behind standard output"
+done
+expect 1 "a full disk for the numbers" sh -c "build/record -n samples/full.rec >/dev/full"
+complains "record: the output cannot be written" "a full disk for the numbers"
+expect 1 "too large a record" build/record -n build/large.rec
+complains "build/large.rec: the file is too large, a record has at most 8207 bytes" "too large a record"
+cp samples/example.numbers build/own.numbers
+expect 2 "a record in its text's place" build/record -o build/own.numbers build/own.numbers
+complains "record: the record would take the place of its own text, build/own.numbers" "a record in its text's place"
+same samples/example.numbers build/own.numbers "a record in its text's place"
+for arguments in "-x" "-o" "-n" "-n a b" "a b" "-o a b c" "-o a -n"; do
+    expect 2 "record $arguments" build/record $arguments
+    complains "usage: record [-o RECORD] [NUMBERS], record -n RECORD" "record $arguments"
+done
+
+# Every refusal of a record in the words that build/detect has for it.
+: >build/refusals/complaints
+for number in 1 2 3 4 5 6 7 8 9 10 11 12 13 15; do
+    expect 1 "the numbers of a record refused by $number" build/record -n "build/refusals/$number.rec"
+    sed "s|^build/refusals/||" build/complaints >>build/refusals/complaints
+done
+grep -v "refused by 14" hosts/expected/refusals >build/refusals/expected
+same build/refusals/expected build/refusals/complaints "the numbers of refused records"
+
 # The program that README.md shows.
 awk '/^```c$/ { inside = 1; next } /^```$/ { inside = 0 } inside' README.md >build/readme.c
 gcc -std=c99 -Wall -Wextra -Werror -Ibuild build/readme.c build/libgeckoneedle.a -o build/readme || fail "README.md's program does not build"
 [ "$(build/readme <samples/example.rec)" = "a reply of 17 bytes" ] || fail "README.md's program does not run"
 [ "$(build/readme <build/large.rec)" = "refused by 1" ] || fail "README.md's program takes too long a record"
 
+# The text that README.md shows, which is the lines behind the command that prints it, and what is said of it with another share.
+awk '/^    \$/ { inside = $0 ~ /cat block.numbers$/; next } inside { sub(/^    /, ""); print }' README.md >build/readme.numbers
+expect 0 "README.md's text" build/record build/readme.numbers
+same samples/example.rec build/printed "README.md's text"
+sed "1s/10 3/10 1/" build/readme.numbers >build/block.numbers
+expect 1 "README.md's text with another share" sh -c "cd build && ./record block.numbers"
+grep -qxF "    $(cat build/complaints)" README.md || fail "README.md does not show what is said: $(cat build/complaints)"
+
 # Two threads at once, against one.
 expect 0 "two threads" build/threads 50 $samples
 cat build/printed
 
 if command -v valgrind >/dev/null; then
-    expect 1 "valgrind" valgrind --quiet --error-exitcode=9 --leak-check=full build/detect $samples
+    checker="valgrind --quiet --error-exitcode=9 --leak-check=full"
+    expect 1 "valgrind" $checker build/detect $samples
     complains "" "valgrind"
-    expect 0 "valgrind, two threads" valgrind --quiet --error-exitcode=9 --leak-check=full build/threads 1 $samples
+    expect 0 "valgrind, two threads" $checker build/threads 1 $samples
     complains "" "valgrind, two threads"
     expect 0 "helgrind, two threads" valgrind --tool=helgrind --quiet --error-exitcode=9 build/threads 1 $samples
     complains "" "helgrind, two threads"
+    write_samples $checker
+    read_samples $checker
+    refuse_lists $checker
     echo "hosts: no error under valgrind"
 else
     echo "hosts: SKIPPED: valgrind is not installed, so nothing was run under it"

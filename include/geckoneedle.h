@@ -1,12 +1,15 @@
 /*
  * Geckoneedle: a soft-value detector for the four-stream modes of IEEE 802.11.
  *
- * One call takes one block record and writes one reply. The record's layout, and what it means, are in document 01; the reply's is below.
+ * geckoneedle_detect takes one block record and writes one reply. geckoneedle_write makes a record of a list of its whole numbers, and
+ * geckoneedle_read takes a record apart into this list. The record's layout, and what it means, are in document 01; the reply's and the
+ * list's are below.
  *
- * The function behind this header is proved: for every record and every buffer, the returned number and every byte of the buffer
- * afterwards are those that the project's definitions say. The proof stands on what C promises at the call: `record` points to `record_len`
- * bytes that may be read, `reply` to `reply_len` bytes that may be written, the two do not overlap, and nobody else writes to either during
- * the call. A length of 0 is fine with any pointer that is not null.
+ * The functions behind this header are proved: for whatever they are given to read and however much memory they are lent, the returned number
+ * and all of the lent memory afterwards are those that the project's definitions say. The proof stands on what C promises at the call: each
+ * pointer points to as many bytes or numbers as the length behind it says, which may be read, and written where the pointer is not to const;
+ * a pointer to numbers is aligned as int32_t asks; the two memories of a call do not overlap, and nobody else writes to either during the
+ * call. A length of 0 is fine with any pointer that is aligned so and not null.
  */
 #ifndef GECKONEEDLE_H
 #define GECKONEEDLE_H
@@ -21,6 +24,9 @@ extern "C" {
 /* A record is never longer than this. */
 #define GECKONEEDLE_RECORD_MAX 8207
 
+/* A record never has more numbers than this: 5, and 48 for each of 64 vectors. */
+#define GECKONEEDLE_NUMBERS_MAX 3077
+
 /*
  * The buffer that a reply to a record of m streams, q bits a symbol and n vectors asks for. A shorter one is refused (14); the reply itself
  * may be shorter.
@@ -33,6 +39,10 @@ extern "C" {
 /*
  * Why a record was refused. Checks follow the record's order, each number is read and then ranged before the next, and the first check
  * that fails decides.
+ *
+ * The words below are of records, as geckoneedle_detect refuses them. geckoneedle_read refuses by 1 to 13 and 15 in the same words, and
+ * geckoneedle_write by 4 to 12 and 15, but its list may hold a negative number where a record cannot: there 7 means that C is not 0 to
+ * 16,777,215. What 2 and 13 mean of a list, and 14 of other memory than a reply buffer, is said at these two functions.
  */
 enum geckoneedle_refusal {
     GECKONEEDLE_OPENING = 1,    /* the first four bytes are missing or not 43 42 52 31 */
@@ -75,6 +85,45 @@ enum geckoneedle_refusal {
  * are their own. Stack: about 27 KiB, whatever the record is (measured on x86-64); 64 KiB are enough.
  */
 int64_t geckoneedle_detect(const uint8_t *record, size_t record_len, uint8_t *reply, size_t reply_len);
+
+/*
+ * Makes a record of its whole numbers.
+ *
+ * The list has them in the record's order, unfolded: M, Q, N, C, D; then for each vector
+ *
+ *     R         by rows: the diagonal entry, then real and imaginary part of each entry right of it
+ *     y         row 1 first: real and imaginary part of each row
+ *     priors    M x Q, in label order: stream 1 first, each stream's first bit first
+ *
+ * These are 5 + N x (M x M + 2 x M + M x Q) numbers.
+ *
+ * Returns how many bytes it wrote, which are the record, from `record`'s first byte on, and alters none behind them; or minus the refusal's
+ * number, and alters none. The list is checked number by number, in its order, and the first check that fails decides:
+ *
+ *     2               the list ends before the next number that is called for
+ *     4 to 12, 15     this number is outside its range
+ *     13              the list goes on after the last number that is called for
+ *     14              after all these: the record is longer than `record_len`. GECKONEEDLE_RECORD_MAX bytes are enough for any
+ *
+ * So where a number is outside its range, the numbers before it, taken alone, are refused by 2, and with it, whatever follows, by its refusal:
+ * hosts/record.c finds the place of a refusal by this.
+ *
+ * What geckoneedle_read gives of the record is this very list. Nothing is kept between calls, and threads need no lock, as above. Stack: under
+ * 1 KiB.
+ */
+int64_t geckoneedle_write(const int32_t *numbers, size_t count, uint8_t *record, size_t record_len);
+
+/*
+ * Takes a record apart into its whole numbers, in a list as geckoneedle_write takes it.
+ *
+ * Returns how many numbers it wrote, from `numbers`' first place on, and alters no place behind them; or minus the refusal's number, and alters
+ * none: 1 to 13 and 15 just where geckoneedle_detect has them, and after these 14 where the record has more numbers than the list has places,
+ * `count`. GECKONEEDLE_NUMBERS_MAX places are enough for any record.
+ *
+ * What geckoneedle_write makes of the numbers is this very record, byte for byte. Nothing is kept between calls, and threads need no lock, as
+ * above. Stack: about 13 KiB.
+ */
+int64_t geckoneedle_read(const uint8_t *record, size_t record_len, int32_t *numbers, size_t count);
 
 #ifdef __cplusplus
 }

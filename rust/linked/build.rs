@@ -1,4 +1,4 @@
-//! Links the proved detector's static library, build/libgeckoneedle.a.
+//! Links the proved static library, build/libgeckoneedle.a.
 
 use std::env;
 use std::path::PathBuf;

@@ -91,7 +91,7 @@ pub fn range(place: Place, streams: i64) -> (i64, i64) {
 }
 
 /// The table's row for a number out of its range.
-fn row(place: Place) -> Refusal {
+pub fn row(place: Place) -> Refusal {
     match place {
         Place::Streams => 4,
         Place::Bits => 5,
@@ -106,7 +106,7 @@ fn row(place: Place) -> Refusal {
 }
 
 /// A record's numbers by chance, all in range.
-fn numbers_by_chance(chance: &mut Chance, streams: i64, bits: i64, vectors: i64) -> Numbers {
+pub fn numbers_by_chance(chance: &mut Chance, streams: i64, bits: i64, vectors: i64) -> Numbers {
     let places = places(streams, bits, vectors);
     let drawn = |place: &Place| match place {
         Place::Streams => streams,

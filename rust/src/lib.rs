@@ -1,5 +1,6 @@
-//! A second source for what is checked by running: written from the documents alone, 01 and the first point of 02, in plain Rust, and
-//! sharing no line with the detector. Two detectors of its own: `plain`, to be believed, and `fast`, to be beaten.
+//! A second source for what is checked by running: written from the documents alone, 01 and the first two points of 02, in plain
+//! Rust, and sharing no line with the proved library. Two detectors of its own: `plain`, to be believed, and `fast`, to be beaten.
+//! One record reader, and a writer beside it that ranges a list's numbers by itself.
 
 pub mod block;
 pub mod cases;
@@ -8,7 +9,9 @@ pub mod channel;
 pub mod exhaustive;
 pub mod fast;
 pub mod listing;
+pub mod lists;
 pub mod plain;
 pub mod record;
 pub mod samples;
 pub mod trials;
+pub mod writer;

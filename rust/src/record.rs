@@ -23,20 +23,31 @@ pub fn read(bytes: &[u8]) -> Result<Numbers, Refusal> {
 
 /// The same with another check of Q in the right one's place, for a test of the tests.
 pub fn read_by(check: WidthCheck, bytes: &[u8]) -> Result<Numbers, Refusal> {
+    let mut numbers = Numbers::new();
+    read_onto(&mut numbers, check, bytes).map(|()| numbers)
+}
+
+/// The numbers that are read before a record is accepted or refused.
+pub fn read_so_far(bytes: &[u8]) -> Numbers {
+    let mut numbers = Numbers::new();
+    let _ = read_onto(&mut numbers, check_width, bytes);
+    numbers
+}
+
+fn read_onto(numbers: &mut Numbers, check: WidthCheck, bytes: &[u8]) -> Result<(), Refusal> {
     if !bytes.starts_with(&OPENING) {
         return Err(1);
     }
     let mut rest = &bytes[OPENING.len()..];
-    let mut numbers = Numbers::new();
-    read_sizes(check, &mut rest, &mut numbers)?;
+    read_sizes(check, &mut rest, numbers)?;
     let (streams, bits, vectors) = (numbers[0], numbers[1], numbers[2]);
     for _ in 0..vectors {
-        read_matrix(&mut rest, &mut numbers, streams)?;
-        read_received(&mut rest, &mut numbers, streams)?;
-        read_priors(&mut rest, &mut numbers, streams * bits)?;
+        read_matrix(&mut rest, numbers, streams)?;
+        read_received(&mut rest, numbers, streams)?;
+        read_priors(&mut rest, numbers, streams * bits)?;
     }
     if rest.is_empty() {
-        Ok(numbers)
+        Ok(())
     } else {
         Err(13)
     }

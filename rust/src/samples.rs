@@ -1,13 +1,14 @@
-//! The sample records of samples/, and a record for each refusal.
+//! The sample records of samples/ by their whole numbers, these numbers as a text and back, and a record for each refusal.
 
+use crate::block::{Block, Complex, Vector};
 use crate::chance::Chance;
 use crate::channel::Plan;
 use crate::record::{encode, Numbers, Refusal};
 
-/// The names of the samples, and their bytes.
-pub fn all() -> [(&'static str, Vec<u8>); 7] {
+/// The names of the samples that are made here, and their numbers.
+pub fn all() -> [(&'static str, Numbers); 7] {
     [
-        ("example", example()),
+        ("example", example_numbers()),
         ("stopped", stopped()),
         ("priors", priors()),
         ("full", full()),
@@ -17,6 +18,9 @@ pub fn all() -> [(&'static str, Vec<u8>); 7] {
     ]
 }
 
+/// The names of the samples that were written by hand, as a text: samples/NAME.numbers is where their numbers come from.
+pub const WRITTEN: [&str; 3] = ["bench", "tie", "points"];
+
 /// Document 01's listing record, byte by byte.
 pub fn example() -> Vec<u8> {
     let vector = [0x01, 0x02, 0x00, 0x01, 0x02, 0x00, 0x01, 0x00, 0x00, 0x00];
@@ -24,45 +28,50 @@ pub fn example() -> Vec<u8> {
     [sizes.as_slice(), &vector, &vector].concat()
 }
 
+/// Its numbers: R rows (1, 1), (0, 1), y = (1, -1) and priors 0, twice.
+fn example_numbers() -> Numbers {
+    let vector = [1, 1, 0, 1, 1, 0, -1, 0, 0, 0];
+    [[2, 1, 2, 10, 3].as_slice(), &vector, &vector].concat()
+}
+
 /// Six vectors in strong noise, with an allowance that some of them use up.
-fn stopped() -> Vec<u8> {
+fn stopped() -> Numbers {
     let plan = Plan { streams: 4, bits: 4, vectors: 6, clip: 8.0, share: 40, noise: 0.9, prior: 0.0 };
-    plan.block(&mut Chance(21)).record()
+    plan.block(&mut Chance(21)).numbers()
 }
 
 /// Two streams with priors of both signs, most of them right and some wrong.
-fn priors() -> Vec<u8> {
+fn priors() -> Numbers {
     let plan = Plan { streams: 2, bits: 4, vectors: 4, clip: 8.0, share: 200, noise: 0.9, prior: 1.0 };
-    plan.block(&mut Chance(22)).record()
+    plan.block(&mut Chance(22)).numbers()
 }
 
 /// The largest block: four streams of 64 points, 64 vectors.
-fn full() -> Vec<u8> {
+fn full() -> Numbers {
     let plan = Plan { streams: 4, bits: 6, vectors: 64, clip: 8.0, share: 3_000, noise: 0.5, prior: 2.0 };
-    plan.block(&mut Chance(23)).record()
+    plan.block(&mut Chance(23)).numbers()
 }
 
 /// Three streams of 256 points with priors, and an allowance that the last vectors use up.
-fn wide() -> Vec<u8> {
+fn wide() -> Numbers {
     let plan = Plan { streams: 3, bits: 8, vectors: 6, clip: 8.0, share: 60, noise: 0.9, prior: 0.5 };
-    plan.block(&mut Chance(24)).record()
+    plan.block(&mut Chance(24)).numbers()
 }
 
 /// Four streams of 256 points, where three are the most.
-fn refused_wide() -> Vec<u8> {
+fn refused_wide() -> Numbers {
     let plan = Plan { streams: 4, bits: 8, vectors: 1, clip: 8.0, share: 60, noise: 0.9, prior: 0.0 };
-    plan.block(&mut Chance(25)).record()
+    plan.block(&mut Chance(25)).numbers()
 }
 
 /// The example, but the last prior is above its range.
-fn refused() -> Vec<u8> {
-    encode(&with(24, 1_048_576))
+fn refused() -> Numbers {
+    with(24, 1_048_576)
 }
 
 /// The example's numbers with one exchanged; M, Q and N stay, so that all places do.
 fn with(at: usize, number: i64) -> Numbers {
-    let vector = [1, 1, 0, 1, 1, 0, -1, 0, 0, 0];
-    let mut numbers = [[2, 1, 2, 10, 3].as_slice(), &vector, &vector].concat();
+    let mut numbers = example_numbers();
     numbers[at] = number;
     numbers
 }
@@ -93,6 +102,43 @@ pub fn refusals() -> [(Refusal, Vec<u8>); 14] {
     ]
 }
 
+/// The numbers of a text: decimal, between blanks and line ends; `#` starts a comment, to the end of its line.
+pub fn numbers_of(text: &str) -> Result<Numbers, String> {
+    let words = text.lines().flat_map(|line| line.split('#').take(1)).flat_map(str::split_whitespace);
+    words.map(|word| word.parse().map_err(|error| format!("{word}: {error}"))).collect()
+}
+
+/// The text that `record -n` (hosts/record.c) prints of a record's numbers.
+pub fn text_of(numbers: &[i64]) -> String {
+    let mut lines = vec![line(&numbers[..5], "M Q N C D")];
+    for (vector, index) in Block::of(numbers).vectors.iter().zip(1..) {
+        lines.push(format!("# vector {index}"));
+        lines.extend(vector_lines(vector));
+    }
+    lines.join("\n") + "\n"
+}
+
+/// A line for each row of R, one for y and one for each stream's priors.
+fn vector_lines(vector: &Vector) -> Vec<String> {
+    let parts = |entries: &[Complex]| entries.iter().flat_map(|entry| [entry.re, entry.im]).collect::<Numbers>();
+    let mut lines = vec![];
+    for (row, entries) in vector.matrix.iter().enumerate() {
+        let numbers = [vec![entries[row].re], parts(&entries[row + 1..])].concat();
+        lines.push(line(&numbers, &format!("R, row {}", row + 1)));
+    }
+    lines.push(line(&parts(&vector.received), "y"));
+    let bits = vector.priors.len() / vector.matrix.len();
+    for (priors, stream) in vector.priors.chunks(bits).zip(1..) {
+        lines.push(line(priors, &format!("priors, stream {stream}")));
+    }
+    lines
+}
+
+fn line(numbers: &[i64], what: &str) -> String {
+    let words: Vec<String> = numbers.iter().map(i64::to_string).collect();
+    format!("{}   # {what}", words.join(" "))
+}
+
 #[cfg(test)]
 mod tests {
     use super::*;
@@ -107,13 +153,45 @@ mod tests {
 
     #[test]
     fn only_two_samples_are_refused() {
-        for (name, record) in all() {
+        for (name, numbers) in all() {
             let refusal = match name {
                 "refused" => Some(12),
                 "refused-wide" => Some(15),
                 _ => None,
             };
-            assert_eq!(read(&record).err(), refusal, "{name}");
+            assert_eq!(read(&encode(&numbers)).err(), refusal, "{name}");
         }
+    }
+
+    #[test]
+    fn the_example_by_its_bytes_and_by_its_numbers() {
+        assert_eq!(encode(&example_numbers()), example());
+    }
+
+    #[test]
+    fn the_text_of_one_vector() {
+        let vector = [11, 12, 13, 14, 15, 16, 17, 18, 19, 20, 21, -22];
+        let text = "2 2 1 10 3   # M Q N C D\n\
+            # vector 1\n\
+            11 12 13   # R, row 1\n\
+            14   # R, row 2\n\
+            15 16 17 18   # y\n\
+            19 20   # priors, stream 1\n\
+            21 -22   # priors, stream 2\n";
+        assert_eq!(text_of(&[[2, 2, 1, 10, 3].as_slice(), &vector].concat()), text);
+    }
+
+    #[test]
+    fn a_text_gives_its_numbers_back() {
+        for (name, numbers) in all() {
+            assert_eq!(numbers_of(&text_of(&numbers)), Ok(numbers), "{name}");
+        }
+    }
+
+    #[test]
+    fn a_text_has_words_and_comments() {
+        assert_eq!(numbers_of("1 -2\t+3#4 5\r\n\n # 6\n7"), Ok(vec![1, -2, 3, 7]));
+        assert_eq!(numbers_of("# none"), Ok(vec![]));
+        assert!(numbers_of("1 2x").is_err());
     }
 }

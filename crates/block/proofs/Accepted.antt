@@ -34,7 +34,7 @@ vector-kinds-count (suc n) m q =
     let rest = vector-kinds-count n m q in
     length-append (kindsOf (runsOf (Vector m q))) (vectorKinds n m q) ∙ (omega (arith, suc-mul n (vectorSize m q)))
 
-kinds-count : (numbers : List ℤ)
+pub kinds-count : (numbers : List ℤ)
     → length (recordKinds numbers) ≡ 5 + countAt 2 numbers * vectorSize (countAt 0 numbers) (countAt 1 numbers)
 unfolding recordKinds kindsOf runsOf
 kinds-count numbers = omega (arith, vector-kinds-count (countAt 2 numbers) (countAt 0 numbers) (countAt 1 numbers))

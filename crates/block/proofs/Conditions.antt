@@ -255,7 +255,7 @@ ends-inside bytes at e =
     (ap (λ (p : Parse). p .read) (accepted-called bytes at e))
 
 -- A record that is the whole of its bytes ends with them
-ends-last : (bytes : List ℕ) (at : ℕ) → readWhole bytes .read ≡ Ended at → (readRecord bytes .read ≡ Ended at) × (at ≡ length bytes)
+pub ends-last : (bytes : List ℕ) (at : ℕ) → readWhole bytes .read ≡ Ended at → (readRecord bytes .read ≡ Ended at) × (at ≡ length bytes)
 unfolding readWhole
 ends-last bytes at e = go (readRecord bytes .read) refl e
   where

@@ -7,8 +7,8 @@ use mathlib.Core.List.{List, _++_, map}
 use native.Mathlib.Omega.{arith}
 use native.Mathlib.Nat.{suc-mul, mul-le-mul, le-refl}
 use lib.Dec.{ltb}
-use lib.ListN.{length, drop, length-drop, List·getD-append}
-use lib.Seq.{sets-eq, take-append-le, drop-append-le}
+use lib.ListN.{length, take, drop, length-drop, List·getD-append}
+use lib.Seq.{sets-eq, take-append-le, drop-append-le, take-append-seam}
 use lib.IntN.{ℤ, pos, natAbs}
 use Rattle.model.specs.Soft.{upFrom}
 use Rattle.model.specs.Block.{InRange, mostVectors}
@@ -100,6 +100,17 @@ module _ (bytes : List ℕ) (at : ℕ) (list list′ : List ℤ) (room : length 
       let all : 0 + length numbers ≡ length numbers = omega arith in
       ap (λ (g : Got). g .list) e ∙ sets-eq numbers list 0 (omega (arith, accepted-count bytes at lent-ended))
       ∙ ap (λ (n : ℕ). numbers ++ drop n list) all
+
+  -- Its first numbers, as many as its own M, Q and N say, are the record's
+  pub lent-numbers : take (5 + countAt 2 list′ * vectorSize (countAt 0 list′) (countAt 1 list′)) list′ ≡ readWhole bytes .numbers
+  unfolding readWhole
+  lent-numbers =
+      let numbers = readRecord bytes .numbers in
+      let rest = drop (length numbers) list in
+      let count = accepted-count bytes at lent-ended in
+      subst (λ (l : List ℤ). take (5 + countAt 2 l * vectorSize (countAt 0 l) (countAt 1 l)) l ≡ numbers) (sym lent-is)
+      (rw (header-same numbers rest count 2 (omega arith), header-same numbers rest count 0 (omega arith), header-same numbers rest count 1 (omega arith), ← count)
+      (take-append-seam numbers rest))
 
   -- Its block is the record's
   pub lent-block : blockOf list′ ≡ blockOf (readWhole bytes .numbers)

@@ -8,7 +8,9 @@ pub mod Places
 pub mod Flat
 pub mod Vectors
 pub mod Accepted
+pub mod CalledFor
 pub mod Size
 pub mod Readings
 pub mod Conditions
 pub mod Lent
+pub mod Fillings

@@ -57,6 +57,38 @@ one-found k bytes at z next e = go (numberAt bytes at) refl e
     go Short f g = let h : _≡_ {A = ℕ} 0 1 = cc in absurd (omega arith)
     go Malformed f g = let h : _≡_ {A = ℕ} 0 1 = cc in absurd (omega arith)
 
+-- A number that is read and in range, and then others
+pub numbers-taken : (k : Kind) (ks : List Kind) (bytes : List ℕ) (at n next : ℕ) → numberAt bytes at ≡ Value n next
+    → allowed k (wholeOf k n) ≡ true → numbersAt (k ∷ ks) bytes at
+    ≡ record { numbers = wholeOf k n ∷ numbersAt ks bytes next .numbers; read = numbersAt ks bytes next .read }
+unfolding numbersAt
+numbers-taken k ks bytes at n next found e = rw (one-taken k bytes at n next found e)
+
+-- The first of some numbers that were read to their end, and the others
+pub record FirstRead (k : Kind) (ks : List Kind) (bytes : List ℕ) (at end : ℕ) : Type 0 where
+  pub n : ℕ
+  pub next : ℕ
+  pub value : numberAt bytes at ≡ Value n next
+  pub others : numbersAt ks bytes next .read ≡ Ended end
+  pub are : numbersAt (k ∷ ks) bytes at .numbers ≡ wholeOf k n ∷ numbersAt ks bytes next .numbers
+
+pub first-read : (k : Kind) (ks : List Kind) (bytes : List ℕ) (at end : ℕ) → numbersAt (k ∷ ks) bytes at .read ≡ Ended end
+    → FirstRead k ks bytes at end
+unfolding numbersAt
+first-read k ks bytes at end e = go (oneAt k bytes at) refl e
+  where
+    go : (o : One) → oneAt k bytes at ≡ o → byOne (numbersAt ks bytes) o .read ≡ Ended end → FirstRead k ks bytes at end
+    go (Taken z next) f g =
+        let r = one-found k bytes at z next f in
+        record {
+          n = r .n;
+          next = next;
+          value = r .value;
+          others = g;
+          are = rw f (ap (λ (x : ℤ). x ∷ numbersAt ks bytes next .numbers) (sym (r .is)));
+        }
+    go (Turned r) f g = let z : _≡_ {A = ℕ} 0 1 = cc in absurd (omega arith)
+
 -- What each number that is taken keeps holds where the numbers end
 pub numbers-keep : (P : List Kind → ℕ → Type 0) (bytes : List ℕ)
     → ((k : Kind) (ks : List Kind) (at next : ℕ) (z : ℤ) → oneAt k bytes at ≡ Taken z next → P (k ∷ ks) at → P ks next)

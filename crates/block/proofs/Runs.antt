@@ -78,7 +78,7 @@ kinds-append [] b = omega arith
 kinds-append (r ∷ rs) b =
     omega (arith, run-numbers (r .kind) (r .count) (kindsOf (rs ++ b)), run-numbers (r .kind) (r .count) (kindsOf rs), kinds-append rs b)
 
-matrix-numbers : (m : ℕ) → length (kindsOf (matrixRuns m)) ≡ m * m
+pub matrix-numbers : (m : ℕ) → length (kindsOf (matrixRuns m)) ≡ m * m
 unfolding kindsOf matrixRuns
 matrix-numbers zero = refl
 matrix-numbers (suc m) = omega (arith, run-numbers RightPart (2 * m) (kindsOf (matrixRuns m)), matrix-numbers m, suc-mul m (suc m), mul-suc m m)

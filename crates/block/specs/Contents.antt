@@ -57,14 +57,21 @@ blockOf numbers = record {
   vectors = map (vectorRows numbers) (upFrom 0 (countAt 2 numbers));
 }
 
+-- The kinds of M, Q, N, C and D
+abbrev pub headerKinds : ℤ → List Kind
+headerKinds m = kindsOf (runsOf First) ++ kindsOf (runsOf (Sizes m))
+
+-- The kinds of a vector's numbers
+abbrev pub kindsOfVector : ℕ → ℕ → List Kind
+kindsOfVector m q = kindsOf (runsOf (Vector m q))
+
 -- The kinds of the numbers of n vectors
 unfoldable pub vectorKinds : ℕ → ℕ → ℕ → List Kind
 vectorKinds zero m q = []
-vectorKinds (suc n) m q = kindsOf (runsOf (Vector m q)) ++ vectorKinds n m q
+vectorKinds (suc n) m q = kindsOfVector m q ++ vectorKinds n m q
 
 -- The kinds of a record's numbers, as its own M, Q and N call for them
 unfoldable pub recordKinds : List ℤ → List Kind
 recordKinds numbers =
-    kindsOf (runsOf First)
-    ++ kindsOf (runsOf (Sizes (getD numbers 0 (pos 0))))
+    headerKinds (getD numbers 0 (pos 0))
     ++ vectorKinds (countAt 2 numbers) (countAt 0 numbers) (countAt 1 numbers)

@@ -2,3 +2,4 @@ pub mod Table
 pub mod Reading
 pub mod Contents
 pub mod Conditions
+pub mod Filling

@@ -1,13 +1,13 @@
 // The block record: every list of bytes is read into its whole numbers, or refused by document 01's table with document 02's 15.
 use wire::Number;
 ghost use mathlib.Core.Path.{_≡_};
-ghost use mathlib.Core.Bool.{Bool, true};
-ghost use Prim.Native.Nat.{ℕ, _+_, _*_, _<_, _≤_, _^_};
-ghost use lib.IntN.{ℤ, pos, natAbs};
+ghost use mathlib.Core.Bool.{true};
+ghost use Prim.Native.Nat.{_+_, _*_, _<_, _≤_, _^_};
+ghost use lib.IntN.{pos, negℤ, natAbs};
 ghost use lib.ListN.{length, getD, replicate};
 ghost use Rattle.block.specs.Table.{refusalNumber, refusalOf, between, oneOf, crowded, allowed, isFolded};
-ghost use Rattle.model.specs.Block.{widths};
-ghost use Rattle.block.specs.Reading.{wholeOf, oneAt, noRun, kindsOf, Small, vectorSize, vectorsAt, sizedAt, numbersAt, run, runsOf, partAt, readRecord, readWhole, Got, got, into, startsWith, opening};
+ghost use Rattle.model.specs.Block.{widths, mostStreams, mostWidth};
+ghost use Rattle.block.specs.Reading.{wholeOf, oneAt, noRun, kindsOf, Small, countAt, vectorSize, vectorsAt, sizedAt, numbersAt, run, runsOf, partAt, readRecord, readWhole, got, into, startsWith, opening};
 
 // How many whole numbers a record has at most: 5 and 48 for each of 64 vectors.
 pub const MOST: usize = 3077;
@@ -33,7 +33,7 @@ pub enum Refusal {
 }
 
 // The kinds of number in a record, each with a range of its own; the symbol width's depends on M, the share's begins at M.
-enum Kind {
+pub enum Kind {
     StreamCount,
     SymbolWidth(i32),
     VectorCount,
@@ -70,7 +70,7 @@ enum Part {
     Vector(usize, usize),
 }
 
-const OPENING: [u8; 4] = [0x43, 0x42, 0x52, 0x31];
+pub const OPENING: [u8; 4] = [0x43, 0x42, 0x52, 0x31];
 
 fn between(z: i32, low: i32, high: i32) -> bool
     ensures { λ r. ⌜ r ≡ between low high z ⌝ }
@@ -111,7 +111,7 @@ fn is_sized(m: i32, z: i32) -> bool
 }
 
 // Is a number in the range of its kind?
-fn allowed(kind: Kind, z: i32) -> bool
+pub fn allowed(kind: Kind, z: i32) -> bool
     ensures { λ r. ⌜ r ≡ allowed kind z ⌝ }
 {
     match kind {
@@ -127,7 +127,7 @@ fn allowed(kind: Kind, z: i32) -> bool
     }
 }
 
-fn is_folded(kind: Kind) -> bool
+pub fn is_folded(kind: Kind) -> bool
     ensures { λ r. ⌜ r ≡ isFolded kind ⌝ }
 {
     match kind {
@@ -144,7 +144,7 @@ fn is_folded(kind: Kind) -> bool
 }
 
 // The refusal of a number that is out of the range of its kind. A Q is checked for its width first.
-fn refusal_of(kind: Kind, z: i32) -> Refusal
+pub fn refusal_of(kind: Kind, z: i32) -> Refusal
     ensures { λ r. ⌜ r ≡ refusalOf kind z ⌝ }
 {
     match kind {
@@ -187,6 +187,13 @@ pub fn refusal_number(refusal: Refusal) -> u32
         Refusal::Buffer => 14,
         Refusal::Crowded => 15,
     }
+}
+
+// Minus a refusal's number, as a call returns it.
+pub fn refused(refusal: Refusal) -> i64
+    ensures { λ r. ⌜ r ≡ negℤ (pos (refusalNumber refusal)) ⌝ }
+{
+    -(refusal_number(refusal) as i64)
 }
 
 // The number whose groups were read: unfolded where its kind is folded.
@@ -362,6 +369,22 @@ pub fn count_of(z: i32) -> usize
     integers::magnitude(z as i64) as usize
 }
 
+// The i-th number of a list, which is a count.
+pub fn count_at(numbers: &[i32], i: usize) -> u32
+    requires { ⌜ i < length (now numbers) ⌝ }
+    ensures { λ r. ⌜ r ≡ countAt i (now (numbers .entry)) ⌝ }
+{
+    count_of(numbers[i]) as u32
+}
+
+// How many numbers a vector has.
+pub fn vector_size(m: usize, q: usize) -> usize
+    requires { ⌜ (m ≤ mostStreams) × (q ≤ mostWidth) ⌝ }
+    ensures { λ r. ⌜ r ≡ vectorSize m q ⌝ }
+{
+    m * m + 2 * m + m * q
+}
+
 // n vectors, stored from a place of the lent list on.
 fn read_vectors(
     bytes: &[u8],
@@ -375,7 +398,7 @@ fn read_vectors(
     requires { ⌜ Small (Part.Vector m q) × (from + n * vectorSize m q ≤ 3077) ⌝ }
     ensures { λ r. ⌜ got r (now (numbers .exit)) ≡ into from (vectorsAt n m q (now (bytes .entry)) at) (now (numbers .entry)) ⌝ }
 {
-    let size = m * m + 2 * m + m * q;
+    let size = vector_size(m, q);
     let mut place = at;
     let mut to = from;
     let mut k = 0;

@@ -22,15 +22,13 @@ use Rattle.block.specs.declared.Refusal.{Refusal}
 use Rattle.block.specs.declared.Refusal.the-variants.{Buffer}
 use Rattle.block.specs.declared.Read.{Read}
 use Rattle.block.specs.declared.Read.the-variants.{Ended, Refused}
+use Rattle.block.proofs.Fillings.{not-both}
 use Rattle.block.proofs.Conditions.{turned-back, whole-read, read-whole, whole-in-range}
 use Rattle.detector.specs.Reply.{replyOf, replyRoom}
-use Rattle.detector.specs.Outcome.{Outcome, refused, replied, byRoom, byRead, outcome}
+use Rattle.block.specs.Filling.{Filling, refused, filled}
+use Rattle.detector.specs.Outcome.{byRoom, byRead, outcome}
 use Rattle.detector.specs.Demand.{Condition, Accepted, nthAnswer, EachComplete}
 use Rattle.detector.proofs.Outcomes.{room-short}
-
--- A refusal is no reply
-not-both : {r : Refusal} {reply : List ℕ} {o : Outcome} → o ≡ refused r → o ≡ replied reply → ⊥
-not-both e f = let z : _≡_ {A = ℕ} 0 1 = cc in omega arith
 
 module _ (room : ℕ) (b : Block) where
   -- A block's refusal is the buffer's, which is too short
@@ -38,17 +36,17 @@ module _ (room : ℕ) (b : Block) where
   unfolding byRoom
   room-refused r e = go (ltb room (replyRoom b)) refl e
     where
-      go : (t : Bool) → ltb room (replyRoom b) ≡ t → cond t (refused Buffer) (replied (replyOf b)) ≡ refused r
+      go : (t : Bool) → ltb room (replyRoom b) ≡ t → cond t (refused Buffer) (filled (replyOf b)) ≡ refused r
           → (r ≡ Buffer) × (room < replyRoom b)
       go true f g = (cc, ltb-true room (replyRoom b) f)
       go false f g = absurd (not-both g refl)
 
   -- A block's reply is its own
-  room-replied : (reply : List ℕ) → byRoom room b ≡ replied reply → reply ≡ replyOf b
+  room-filled : (reply : List ℕ) → byRoom room b ≡ filled reply → reply ≡ replyOf b
   unfolding byRoom
-  room-replied reply e = go (ltb room (replyRoom b)) e
+  room-filled reply e = go (ltb room (replyRoom b)) e
     where
-      go : (t : Bool) → cond t (refused Buffer) (replied (replyOf b)) ≡ replied reply → reply ≡ replyOf b
+      go : (t : Bool) → cond t (refused Buffer) (filled (replyOf b)) ≡ filled reply → reply ≡ replyOf b
       go true f = absurd (not-both refl f)
       go false f = cc
 
@@ -95,16 +93,16 @@ demand1 bytes room r = (λ e. holds e (one-of-two bytes room), refuses)
 
 -- It replies exactly where no condition holds
 pub demand1-accepted : (bytes : List ℕ) (room : ℕ)
-    → ((reply : List ℕ) × (outcome bytes room ≡ replied reply)) ↔ ((r : Refusal) → Condition bytes room r → ⊥)
+    → ((reply : List ℕ) × (outcome bytes room ≡ filled reply)) ↔ ((r : Refusal) → Condition bytes room r → ⊥)
 demand1-accepted bytes room = (λ t r c. not-both (demand1 bytes room r .1 c) (t .1), λ none. go (outcome bytes room) refl none)
   where
-    go : (o : Outcome) → outcome bytes room ≡ o → ((r : Refusal) → Condition bytes room r → ⊥)
-        → (reply : List ℕ) × (outcome bytes room ≡ replied reply)
+    go : (o : Filling ℕ) → outcome bytes room ≡ o → ((r : Refusal) → Condition bytes room r → ⊥)
+        → (reply : List ℕ) × (outcome bytes room ≡ filled reply)
     go (refused r) e none = absurd (none r (demand1 bytes room r .0 e))
-    go (replied reply) e none = (reply, e)
+    go (filled reply) e none = (reply, e)
 
 -- Demand 3: a reply is that of a whole record's block in range, whose answers meet the model's demand 3
-pub demand3 : (bytes : List ℕ) (room : ℕ) (reply : List ℕ) → outcome bytes room ≡ replied reply → Accepted bytes reply
+pub demand3 : (bytes : List ℕ) (room : ℕ) (reply : List ℕ) → outcome bytes room ≡ filled reply → Accepted bytes reply
 demand3 bytes room reply e = go (one-of-two bytes room)
   where
     go : ((r : Refusal) × (readWhole bytes .read ≡ Refused r)) ⊎ Whole bytes (length bytes) → Accepted bytes reply
@@ -115,7 +113,7 @@ demand3 bytes room reply e = go (one-of-two bytes room)
         record {
           whole = w;
           ranged = ranged;
-          reply-is = room-replied room b reply (sym (whole-outcome bytes room w) ∙ e);
+          reply-is = room-filled room b reply (sym (whole-outcome bytes room w) ∙ e);
           demand3 = answers-meet b (shaped b ranged);
         }
 

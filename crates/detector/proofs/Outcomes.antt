@@ -12,7 +12,8 @@ use Rattle.block.specs.declared.Refusal.{Refusal}
 use Rattle.block.specs.declared.Refusal.the-variants.{Buffer}
 use Rattle.block.specs.declared.Read.the-variants.{Ended, Refused}
 use Rattle.detector.specs.Reply.{replyOf, replyRoom}
-use Rattle.detector.specs.Outcome.{refused, replied, byRoom, outcome}
+use Rattle.block.specs.Filling.{refused, filled}
+use Rattle.detector.specs.Outcome.{byRoom, outcome}
 use Rattle.block.proofs.Lent.{lent-block}
 
 module _ (room : ℕ) (b : Block) where
@@ -21,7 +22,7 @@ module _ (room : ℕ) (b : Block) where
   unfolding byRoom
   room-short h = rw (lt-ltb _ _ h)
 
-  pub room-enough : replyRoom b ≤ room → byRoom room b ≡ replied (replyOf b)
+  pub room-enough : replyRoom b ≤ room → byRoom room b ≡ filled (replyOf b)
   unfolding byRoom
   room-enough h = rw (le-ltb _ _ h)
 

@@ -7,17 +7,14 @@ use search::Task;
 ghost use mathlib.Core.Path.{_≡_};
 ghost use mathlib.Core.List.{[], _∷_, _++_, map};
 ghost use Prim.Native.Nat.{_+_, _-_, _*_, _<_, _≤_};
-ghost use lib.IntN.{pos, negℤ};
 ghost use lib.ListN.{length, take};
-ghost use Rattle.wire.specs.Writing.{put};
 ghost use Rattle.wire.specs.Folding.{folded};
-ghost use Rattle.block.specs.Table.{refusalNumber};
 ghost use Rattle.model.specs.Block.{vectorOf, mostStreams, mostWidth, mostVectors};
-ghost use Rattle.block.specs.Reading.{countAt, vectorSize};
 ghost use Rattle.block.specs.Contents.{vectorRows, blockOf};
 ghost use Rattle.search.specs.Values.{Answered};
 ghost use Rattle.detector.specs.Reply.{replyOpening, markOf, answerNumbers, written, replyOf};
-ghost use Rattle.detector.specs.Outcome.{outcome, returned, bufferAfter, byRoom};
+ghost use Rattle.block.specs.Filling.{returned, bufferAfter};
+ghost use Rattle.detector.specs.Outcome.{outcome, byRoom};
 ghost use Rattle.search.specs.Holds.{Holds};
 ghost use Rattle.detector.specs.Steps.{Wrote, Heads, answerAt};
 ghost use Rattle.detector.specs.Steps.{SoftAsked, FoundAsked, AllowanceAsked, SearchOneAsked, StepAsked, ReplyAsked};
@@ -39,37 +36,18 @@ struct Step {
 
 const OPENING: [u8; 4] = [0x43, 0x42, 0x53, 0x31];
 
-// The i-th number of the lent list, which is a count.
-fn count_at(numbers: &[i32], i: usize) -> u32
-    requires { ⌜ i < length (now numbers) ⌝ }
-    ensures { λ r. ⌜ r ≡ countAt i (now (numbers .entry)) ⌝ }
-{
-    block::count_of(numbers[i]) as u32
-}
-
 // The header of the lent list.
 fn header_of(numbers: &[i32]) -> Header
     requires { ⌜ length (now numbers) ≡ 3077 ⌝ }
     ensures { λ r. ⌜ Heads r (now (numbers .entry)) ⌝ }
 {
     Header {
-        streams: count_at(numbers, 0) as usize,
-        width: count_at(numbers, 1) as usize,
-        vectors: count_at(numbers, 2) as usize,
-        clip: count_at(numbers, 3),
-        share: count_at(numbers, 4),
+        streams: block::count_at(numbers, 0) as usize,
+        width: block::count_at(numbers, 1) as usize,
+        vectors: block::count_at(numbers, 2) as usize,
+        clip: block::count_at(numbers, 3),
+        share: block::count_at(numbers, 4),
     }
-}
-
-// The reply's opening.
-fn write_opening(reply: &mut [u8])
-    requires { ⌜ 4 ≤ length (now reply) ⌝ }
-    ensures { λ _. ⌜ now (reply .exit) ≡ put (now (reply .entry)) 0 replyOpening ⌝ }
-{
-    reply[0] = OPENING[0];
-    reply[1] = OPENING[1];
-    reply[2] = OPENING[2];
-    reply[3] = OPENING[3];
 }
 
 // The opening and M, Q, N, each in one group; the place after them.
@@ -77,7 +55,7 @@ fn write_head(reply: &mut [u8], m: usize, q: usize, n: usize) -> usize
     requires { ⌜ (7 ≤ length (now reply)) × (m < 128) × (q < 128) × (n < 128) ⌝ }
     ensures { λ r. ⌜ (r ≡ 7) × Wrote (now (reply .entry)) 0 (replyOpening ++ written (m ∷ q ∷ n ∷ [])) (now (reply .exit)) r ⌝ }
 {
-    write_opening(reply);
+    wire::write_opening(reply, OPENING);
     let second = wire::write_number(reply, 4, m as u32);
     let third = wire::write_number(reply, second, q as u32);
     wire::write_number(reply, third, n as u32)
@@ -127,14 +105,6 @@ fn allowance(h: Header, spent: u32, k: usize) -> u32
     h.vectors as u32 * h.share - spent - reserve as u32
 }
 
-// How many numbers a vector has.
-fn vector_size(m: usize, q: usize) -> usize
-    requires { ⌜ (m ≤ mostStreams) × (q ≤ mostWidth) ⌝ }
-    ensures { λ r. ⌜ r ≡ vectorSize m q ⌝ }
-{
-    m * m + 2 * m + m * q
-}
-
 // Vector k, from 0, is searched under an allowance.
 fn search_one(
     numbers: &[i32],
@@ -149,7 +119,7 @@ fn search_one(
     ensures { λ r. ⌜ Answered (vectorOf (blockOf (now (numbers .entry))) (vectorRows (now (numbers .entry)) k)) allowed
         (r .stopped) (r .count) (r .label) (now (soft .entry)) (now (soft .exit)) ⌝ }
 {
-    let size = vector_size(h.streams, h.width);
+    let size = block::vector_size(h.streams, h.width);
     let from = 5 + k * size;
     let to = from + size;
     let task = Task {
@@ -209,13 +179,6 @@ fn answer_all(numbers: &[i32], h: Header, reply: &mut [u8]) -> usize
     step.at
 }
 
-// Minus a refusal's number.
-fn refused(refusal: Refusal) -> i64
-    ensures { λ r. ⌜ r ≡ negℤ (pos (refusalNumber refusal)) ⌝ }
-{
-    -(block::refusal_number(refusal) as i64)
-}
-
 // The buffer a reply asks for.
 fn room(m: usize, q: usize, n: usize) -> usize
     requires { ⌜ (m ≤ mostStreams) × (q ≤ mostWidth) × (n ≤ mostVectors) ⌝ }
@@ -232,7 +195,7 @@ fn reply_to(numbers: &[i32], reply: &mut [u8]) -> i64
 {
     let h = header_of(numbers);
     if reply.len() < room(h.streams, h.width, h.vectors) {
-        return refused(Refusal::Buffer);
+        return block::refused(Refusal::Buffer);
     }
     answer_all(numbers, h, reply) as i64
 }
@@ -246,6 +209,6 @@ pub extern "C" fn geckoneedle_detect(record: &[u8], reply: &mut [u8]) -> i64
     let mut numbers = [0i32; block::MOST];
     match block::read_whole(record, &mut numbers) {
         Read::Ended(_) => reply_to(&numbers, reply),
-        Read::Refused(refusal) => refused(refusal),
+        Read::Refused(refusal) => block::refused(refusal),
     }
 }

@@ -14,7 +14,8 @@ ghost use mathlib.Core.List.{_++_};
 ghost use Prim.Native.Nat.{_+_, _<_, _≤_};
 ghost use lib.ListN.{length, take, drop};
 ghost use Rattle.cases.specs.Cases.{lengthAt};
-ghost use Rattle.detector.specs.Outcome.{outcome, returned, bufferAfter};
+ghost use Rattle.block.specs.Filling.{returned, bufferAfter};
+ghost use Rattle.detector.specs.Outcome.{outcome};
 ghost use Rattle.detector_cases.specs.Bench.{hexDigit, allFill, secondAt, TwoWithin};
 
 // What the buffer is filled with.

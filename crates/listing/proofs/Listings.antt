@@ -18,7 +18,8 @@ use Rattle.block.proofs.Lent.{lent-block}
 use Rattle.search.specs.Holds.{Holds}
 use Rattle.search.proofs.Records.{lent-holds}
 use Rattle.detector.specs.Reply.{replyOf, replyRoom}
-use Rattle.detector.specs.Outcome.{replied, outcome}
+use Rattle.block.specs.Filling.{filled}
+use Rattle.detector.specs.Outcome.{outcome}
 use Rattle.detector.specs.Steps.{Wrote}
 use Rattle.detector.proofs.Replies.{reply-room}
 use Rattle.detector.proofs.Held.{room-small}
@@ -57,7 +58,7 @@ module _ (bytes : List ℕ) (list list′ : List ℤ) where
     unfolding listingOf
     listed-block = rw (← ap (λ (g : Got). g .read) e, lent-block bytes at list list′ size e)
 
-    pub replied-block : (room : ℕ) → 6727 ≤ room → outcome bytes room ≡ replied (replyOf (blockOf list′))
+    pub replied-block : (room : ℕ) → 6727 ≤ room → outcome bytes room ≡ filled (replyOf (blockOf list′))
     replied-block room enough =
         when-ended bytes room list list′ at size e
         ∙ room-enough room (blockOf list′) (le-trans (reply-small (lent-holds bytes at list list′ size e)) enough)

@@ -9,7 +9,6 @@ ghost use lib.ListN.{length, drop};
 ghost use Rattle.io.specs.Counts.{Counts};
 ghost use Rattle.wire.specs.Folding.{unfolded};
 ghost use Rattle.wire.specs.Writing.{put};
-ghost use Rattle.block.specs.Reading.{countAt};
 ghost use Rattle.block.specs.Contents.{blockOf};
 ghost use Rattle.search.specs.Holds.{Holds};
 ghost use Rattle.detector.specs.Steps.{Wrote};
@@ -242,21 +241,13 @@ fn write_vector(
     Progress { at, place, total }
 }
 
-// The i-th number of the lent list, which is a count.
-fn count_at(numbers: &[i32], i: usize) -> u32
-    requires { ⌜ i < length (now numbers) ⌝ }
-    ensures { λ r. ⌜ r ≡ countAt i (now (numbers .entry)) ⌝ }
-{
-    block::count_of(numbers[i]) as u32
-}
-
 // The sizes of the lent list's record.
 fn sizes_of(numbers: &[i32]) -> Sizes
     requires { ⌜ Holds (now numbers) ⌝ }
     ensures { λ r. ⌜ Sized r (now (numbers .entry)) ⌝ }
 {
-    let m = count_at(numbers, 0) as usize;
-    let q = count_at(numbers, 1) as usize;
+    let m = block::count_at(numbers, 0) as usize;
+    let q = block::count_at(numbers, 1) as usize;
     let bits = m * q;
     let vector = m * m + 2 * m + bits;
     Sizes { vector, bits }
@@ -285,7 +276,7 @@ fn write_vectors(text: &mut [u8], numbers: &[i32], reply: &[u8], at: usize) -> P
     ensures { λ r. ⌜ VectorsListed (now (text .entry)) (now (numbers .entry)) at (now (text .exit)) r ⌝ }
 {
     let sizes = sizes_of(numbers);
-    let n = count_at(numbers, 2) as usize;
+    let n = block::count_at(numbers, 2) as usize;
     let mut step = Progress {
         at,
         place: 7,
@@ -304,11 +295,11 @@ fn write_block(text: &mut [u8], numbers: &[i32], reply: &[u8]) -> usize
     requires { ⌜ BlockAsked (now numbers) (now reply) (length (now text)) ⌝ }
     ensures { λ r. ⌜ (r ≤ 21928) × Wrote (now (text .entry)) 0 (blockText (blockOf (now (numbers .entry)))) (now (text .exit)) r ⌝ }
 {
-    let m = count_at(numbers, 0);
-    let q = count_at(numbers, 1);
-    let n = count_at(numbers, 2);
-    let clip = count_at(numbers, 3);
-    let share = count_at(numbers, 4);
+    let m = block::count_at(numbers, 0);
+    let q = block::count_at(numbers, 1);
+    let n = block::count_at(numbers, 2);
+    let clip = block::count_at(numbers, 3);
+    let share = block::count_at(numbers, 4);
     let at = write_head(text, m, q, n, clip, share);
     let listed = write_vectors(text, numbers, reply, at);
     write_last(text, listed.at, b"total ", listed.total)

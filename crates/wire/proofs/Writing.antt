@@ -4,13 +4,13 @@ use Prim.Native.Nat.{ℕ, zero, suc, _+_, _*_, _/_, _%_, _^_, _<_, _≤_}
 use mathlib.Core.Path.{_≡_, refl, ap, _∙_}
 use mathlib.Core.Bool.{Bool, true, false, cond}
 use mathlib.Core.List.{List, [], _∷_, _++_}
-use native.Mathlib.Nat.{div-lt-iff-lt-mul, mod-lt}
+use native.Mathlib.Nat.{div-lt-iff-lt-mul, le-div-iff-mul-le, mod-lt}
 use native.Mathlib.Omega.{arith}
 use borrow.Author.Tests.{ltb-true, lt-ltb, le-ltb}
 use lib.Bits.{bitAnd, bitOr, and-mask, or-shifted-r}
 use lib.Dec.{ltb, lit<}
-use lib.ListN.{length, take, drop, set}
-use lib.Pow.{pow-add}
+use lib.ListN.{length, getD, take, drop, set}
+use lib.Pow.{pow-add, pow-pos}
 use lib.Seq.{length-sets, sets-eq}
 use Rattle.wire.specs.Reading.{Bytes}
 use Rattle.wire.specs.Writing.{groupsOf, bytesOf, put}
@@ -70,6 +70,16 @@ groupsOf-few (suc f) (suc g) n h = go (ltb n 128) (groupsOf-few f g (n / 128) (l
     go true k = omega arith
     go false k = omega arith
 
+-- and no fewer
+groupsOf-many : (f g n : ℕ) → 2 ^ (7 * g) ≤ n → g < f → suc g ≤ length (groupsOf f n)
+groupsOf-many zero g n h k = absurd (omega arith)
+groupsOf-many (suc f) zero n h k = groupsOf-some f n
+groupsOf-many (suc f) (suc g) n h k =
+    let more = rw (weight g) at h in
+    let large : 128 ≤ n = omega (arith, pow-pos (7 * g)) in
+    let left : 2 ^ (7 * g) ≤ n / 128 = le-div-iff-mul-le (lit< tt) .1 more in
+    rw (groupsOf-more f n large) (omega (arith, groupsOf-many f g (n / 128) left (omega arith)))
+
 -- Each group is a byte
 bytes-cons : (b : ℕ) (l : List ℕ) → b < 256 → Bytes l → Bytes (b ∷ l)
 bytes-cons b l h k zero = h
@@ -106,6 +116,11 @@ unfolding bytesOf
 bytesOf-short zero n p h = absurd (omega arith)
 bytesOf-short (suc g) n p h = groupsOf-few 4 g n h
 
+-- and no fewer, if it is not below 2 to the 7 (g - 1)
+pub bytesOf-many : (g n : ℕ) → 2 ^ (7 * g) ≤ n → g < 4 → suc g ≤ length (bytesOf n)
+unfolding bytesOf
+bytesOf-many g n h k = groupsOf-many 4 g n h k
+
 pub bytesOf-bytes : (n : ℕ) → Bytes (bytesOf n)
 unfolding bytesOf
 bytesOf-bytes n = groupsOf-bytes 4 n
@@ -131,6 +146,17 @@ unfolding put
 put-append [] cs l at = let e : at + 0 ≡ at = omega arith in rw e
 put-append (b ∷ bs) cs l at =
     let e : at + suc (length bs) ≡ suc at + length bs = omega arith in rw e (put-append bs cs (set l at b) (suc at))
+
+-- Four bytes, set one after the other at the start
+pub put-four : (l bs : List ℕ) → length bs ≡ 4
+    → put l 0 bs ≡ set (set (set (set l 0 (getD bs 0 0)) 1 (getD bs 1 0)) 2 (getD bs 2 0)) 3 (getD bs 3 0)
+unfolding put
+put-four l [] h = absurd (omega arith)
+put-four l (a ∷ []) h = absurd (omega arith)
+put-four l (a ∷ b ∷ []) h = absurd (omega arith)
+put-four l (a ∷ b ∷ c ∷ []) h = absurd (omega arith)
+put-four l (a ∷ b ∷ c ∷ d ∷ []) h = refl
+put-four l (a ∷ b ∷ c ∷ d ∷ e ∷ bs) h = absurd (omega arith)
 
 -- What was before the run, the run, and what was behind it
 pub put-is : (l : List ℕ) (at : ℕ) (bs : List ℕ) → at + length bs ≤ length l → put l at bs ≡ take at l ++ bs ++ drop (at + length bs) l

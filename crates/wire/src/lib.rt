@@ -1,4 +1,5 @@
-// One number of a record, read and written: groups of seven bits, least significant first. And folding, signed numbers as plain ones.
+// One number of a record, read and written: groups of seven bits, least significant first. Folding, signed numbers as plain ones. And the
+// four bytes in front.
 ghost use mathlib.Core.Path.{_≡_};
 ghost use Prim.Native.Nat.{_+_, _<_, _≤_, _^_};
 ghost use lib.ListN.{length};
@@ -52,6 +53,34 @@ pub fn write_number(buffer: &mut [u8], at: usize, n: u32) -> usize
     }
     buffer[place] = rest as u8;
     place + 1
+}
+
+// How many groups n has.
+pub fn group_count(n: u32) -> usize
+    requires { ⌜ n < 2 ^ 28 ⌝ }
+    ensures { λ r. ⌜ r ≡ length (bytesOf n) ⌝ }
+{
+    if n < 128 {
+        return 1;
+    }
+    if n < 16384 {
+        return 2;
+    }
+    if n < 2097152 {
+        return 3;
+    }
+    4
+}
+
+// Puts the four bytes that open a record or a reply at the buffer's start.
+pub fn write_opening(buffer: &mut [u8], opening: [u8; 4])
+    requires { ⌜ 4 ≤ length (now buffer) ⌝ }
+    ensures { λ _. ⌜ now (buffer .exit) ≡ put (now (buffer .entry)) 0 opening ⌝ }
+{
+    buffer[0] = opening[0];
+    buffer[1] = opening[1];
+    buffer[2] = opening[2];
+    buffer[3] = opening[3];
 }
 
 // x folded. For a negative x, -2x - 1 is 2(-1 - x) + 1, and no part of that leaves its type, whatever x is.

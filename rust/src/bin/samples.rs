@@ -1,12 +1,15 @@
 //! The sample records, and what is printed of them.
 //!
-//! `samples ROOT` writes, below the repository's folder ROOT, samples/NAME.rec, samples/NAME.txt (document 01's listing of it) and what
-//! hosts/detect prints of the samples and of a record for each refusal: hosts/expected/samples and hosts/expected/refusals.
+//! `samples ROOT` writes, below the repository's folder ROOT, samples/NAME.rec, samples/NAME.txt (document 01's listing of it),
+//! samples/NAME.numbers (its numbers as a text) and what hosts/detect prints of the samples and of a record for each refusal:
+//! hosts/expected/samples and hosts/expected/refusals. The samples that were written by hand have their numbers from
+//! samples/NAME.numbers, which is read and stays as it is.
 //! `samples --check ROOT` compares the files there with what it would write. `samples --refusals FOLDER` writes the records for the
 //! refusals, 1.rec to 13.rec and 15.rec.
 
 use reference::listing::{host_lines, listing, reason};
-use reference::samples::{all, example, refusals};
+use reference::record::{encode, Numbers};
+use reference::samples::{all, example, numbers_of, refusals, text_of, WRITTEN};
 use std::path::Path;
 use std::process::ExitCode;
 use std::{env, fs};
@@ -20,7 +23,7 @@ fn main() -> ExitCode {
     let outcome = match words[..] {
         ["--check", root] => check(Path::new(root)),
         ["--refusals", folder] => write(Path::new(folder), refused_files()),
-        [root] if !root.starts_with('-') => write(Path::new(root), stored_files()),
+        [root] if !root.starts_with('-') => stored_files(Path::new(root)).and_then(|files| write(Path::new(root), files)),
         _ => Err("usage: samples ROOT, samples --check ROOT, samples --refusals FOLDER".to_string()),
     };
     match outcome {
@@ -32,17 +35,32 @@ fn main() -> ExitCode {
     }
 }
 
-fn stored_files() -> Vec<File> {
+fn stored_files(root: &Path) -> Result<Vec<File>, String> {
     let mut files = vec![];
     let mut printed = String::new();
-    for (name, record) in all() {
+    for (name, numbers) in all() {
+        files.push((format!("samples/{name}.numbers"), text_of(&numbers).into_bytes()));
+    }
+    for (name, numbers) in all().into_iter().chain(written(root)?) {
+        let record = encode(&numbers);
         files.push((format!("samples/{name}.txt"), listing(&record).into_bytes()));
         printed += &host_lines(&format!("samples/{name}.rec"), &record);
         files.push((format!("samples/{name}.rec"), record));
     }
     files.push(("hosts/expected/samples".to_string(), printed.into_bytes()));
     files.push(("hosts/expected/refusals".to_string(), refusal_lines().into_bytes()));
-    files
+    Ok(files)
+}
+
+/// The samples that were written by hand: their names, and the numbers of their texts.
+fn written(root: &Path) -> Result<Vec<(&'static str, Numbers)>, String> {
+    let taken = |name: &'static str| {
+        let file = format!("samples/{name}.numbers");
+        let text = fs::read_to_string(root.join(&file)).map_err(|error| format!("{file}: {error}"))?;
+        let numbers = numbers_of(&text).map_err(|said| format!("{file}: {said}"))?;
+        Ok((name, numbers))
+    };
+    WRITTEN.into_iter().map(taken).collect()
 }
 
 /// What the host prints of a record for each refusal; the last, 14, is the example with a buffer that is a byte short.
@@ -65,7 +83,7 @@ fn write(root: &Path, files: Vec<File>) -> Result<(), String> {
 }
 
 fn check(root: &Path) -> Result<(), String> {
-    for (name, bytes) in stored_files() {
+    for (name, bytes) in stored_files(root)? {
         let stored = fs::read(root.join(&name)).map_err(|error| format!("{name}: {error}"))?;
         if stored != bytes {
             return Err(format!("{name} is not what this program makes"));

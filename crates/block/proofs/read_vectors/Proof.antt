@@ -1,10 +1,7 @@
 -- The invariant: all n vectors into the list as it was are those from the k-th on into the list as it is.
-use borrow.Author.Needs.{needs}
-use mathlib.Core.Path.{_≡_, refl, sym, _∙_, ap}
-use Prim.Native.Nat.{ℕ, _≤_, _<_, _-_, _+_, _*_}
+use mathlib.Core.Path.{_≡_, sym, _∙_}
+use Prim.Native.Nat.{_≤_, _-_, _+_, _*_}
 use native.Mathlib.Omega.{arith}
-use native.Mathlib.Nat.{mul-le-mul}
-use Rattle.model.specs.Block.{mostBits}
 use Rattle.block.specs.Reading.{vectorSize, vectorsAt, into}
 use Rattle.block.proofs.Runs.{vector-numbers}
 use Rattle.block.proofs.Parts.{rest-none, rest-room, rest-ended, rest-refused}
@@ -19,21 +16,18 @@ Inv-loop bytes at m q n numbers₀ from size place₀ to₀ k₀ numbers place t
 abbrev μ-loop : tie.MeasureT-loop
 μ-loop bytes at m q n numbers₀ from size place₀ to₀ k₀ numbers place to k = n - k
 
--- A vector has at most 48 numbers
-squares : (c : tie.Start Inv-loop μ-loop) → c .args .m * c .args .m ≤ 16
-squares c = mul-le-mul (c .pre .0 .0) (c .pre .0 .0)
-
-priors : (c : tie.Start Inv-loop μ-loop) → c .args .m * c .args .q ≤ mostBits
-priors c = c .pre .0 .2
-
+-- What is left is a vector and what follows it
 room : (c : tie.In-loop Inv-loop μ-loop)
-    → (c .before .before .before .args .n - c .before .loop .k) * vectorSize (c .before .before .before .args .m) (c .before .before .before .args .q)
-    ≡ (c .before .before .before .args .n - (c .before .loop .k + 1)) * vectorSize (c .before .before .before .args .m) (c .before .before .before .args .q)
-    + vectorSize (c .before .before .before .args .m) (c .before .before .before .args .q)
-room c = let a = c .before .before .before .args in rest-room (a .n) (c .before .loop .k) (a .m) (a .q) (a .bytes .now) (a .at) (a .from) (a .numbers .now) (c .loop-test .taken) (vectorSize (a .m) (a .q))
+    → (c .before .before .before .before .args .n - c .before .loop .k) * vectorSize (c .before .before .before .before .args .m) (c .before .before .before .before .args .q)
+    ≡ (c .before .before .before .before .args .n - (c .before .loop .k + 1)) * vectorSize (c .before .before .before .before .args .m) (c .before .before .before .before .args .q)
+    + vectorSize (c .before .before .before .before .args .m) (c .before .before .before .before .args .q)
+room c = let a = c .before .before .before .before .args in rest-room (a .n) (c .before .loop .k) (a .m) (a .q) (a .bytes .now) (a .at) (a .from) (a .numbers .now) (c .loop-test .taken) (vectorSize (a .m) (a .q))
 
 loop-holds : tie.Need-loop-holds Inv-loop μ-loop
-loop-holds c = let e : c .before .args .n - 0 ≡ c .before .args .n = omega arith in (refl, omega arith, rw e (c .before .pre .1), rw e)
+loop-holds c =
+    let s = c .before .before in
+    let e : s .args .n - 0 ≡ s .args .n = omega arith in
+    (c .vector-size .ensures, omega arith, rw e (s .pre .1), rw e)
 
 returns : tie.Need-returns Inv-loop μ-loop
 returns c =
@@ -44,11 +38,12 @@ returns c =
 loop-again : tie.Need-loop-again Inv-loop μ-loop
 loop-again c =
     let call = c .before .before .before in
-    let turn = call .before .before in (
-      refl,
+    let turn = call .before .before in
+    let size = turn .before .loop .inv .0 in (
+      size,
       omega arith,
       omega (arith, room turn),
-      turn .before .loop .inv .3 ∙ rest-ended _ _ _ _ _ _ _ _ (turn .loop-test .taken) _ _ (rw (c .before .next .given .1) at (call .read-part .ensures)),
+      rw size (turn .before .loop .inv .3 ∙ rest-ended _ _ _ _ _ _ _ _ (turn .loop-test .taken) _ _ (rw (c .before .next .given .1) at (call .read-part .ensures))),
     )
 
 pub read-vectors-spec : {M : Type 1} → statement M
@@ -57,13 +52,9 @@ read-vectors-spec =
     (tie.spec
     Inv-loop
     μ-loop
-    (λ c. omega (arith, squares (c .before)))
-    (λ c. omega (arith, c .before .pre .0 .0))
-    (λ c. omega (arith, squares (c .before), c .before .pre .0 .0))
-    (λ c. omega (arith, priors (c .before)))
-    (λ c. omega (arith, squares (c .before), priors (c .before), c .before .pre .0 .0))
+    (λ c κs. (c .before .pre .0 .0, c .before .pre .0 .1))
     loop-holds
-    (λ c κs. (c .before .before .before .before .pre .0, omega (arith, room (c .before), vector-numbers (c .before .before .before .before .args .m) (c .before .before .before .before .args .q))))
+    (λ c κs. let s = c .before .before .before .before .before in (s .pre .0, omega (arith, room (c .before), vector-numbers (s .args .m) (s .args .q))))
     (λ c. c .match .keys1)
     (λ c. omega (arith, room (c .before .before .before .before .before)))
     (λ c. c .match .keys2)

@@ -1,0 +1,80 @@
+-- Computed readings, as one theorem: document 01's listing record from its numbers and back, and which refusal decides where a list or a
+-- record has several faults. The bytes are document 01's, the refusals the table's and document 02's, worked out by hand.
+use Prim.Native.Nat.{ℕ}
+use mathlib.Core.Path.{_≡_, refl}
+use mathlib.Core.List.{List, [], _∷_, _++_, map}
+use lib.IntN.{ℤ, pos, negsuc}
+use Rattle.wire.specs.Reading.{numberAt, groups, above, lastGroup}
+use Rattle.wire.specs.Writing.{groupsOf, bytesOf}
+use Rattle.wire.specs.Folding.{folded, unfolded}
+use Rattle.block.specs.Reading.{byNumber, numbersAt, kindsOf, runsOf, matrixRuns, vectorsAt, sizedAt, recordAt, startsWith}
+use Rattle.block.specs.Reading.{readRecord, readWhole}
+use Rattle.block.specs.Contents.{vectorKinds}
+use Rattle.block.specs.Conditions.{calledFor}
+use Rattle.block.specs.Filling.{Filling, refused, filled, fitted}
+use Rattle.block.specs.declared.Refusal.the-variants.{Ends, Streams, Width, Vectors, Clip, Share, Diagonal}
+use Rattle.block.specs.declared.Refusal.the-variants.{Entry, Received, Prior, Trailing, Buffer, Crowded}
+use Rattle.records.specs.Writing.{checked, bytesFor, recordOf, writing, reading}
+
+-- "That vector twice, C = 10, D = 3": R rows (1, 1), (0, 1), y = (1, -1), priors 0
+abbrev vector : List ℤ
+vector = pos 1 ∷ pos 1 ∷ pos 0 ∷ pos 1 ∷ pos 1 ∷ pos 0 ∷ negsuc 0 ∷ pos 0 ∷ pos 0 ∷ pos 0 ∷ []
+
+abbrev listing : List ℤ
+listing = pos 2 ∷ pos 1 ∷ pos 2 ∷ pos 10 ∷ pos 3 ∷ vector ++ vector
+
+-- "43 42 52 31 02 01 02 0A 03, then twice 01 02 00 01 02 00 01 00 00 00"
+abbrev listingBytes : List ℕ
+listingBytes =
+    0x43 ∷ 0x42 ∷ 0x52 ∷ 0x31 ∷ 0x02 ∷ 0x01 ∷ 0x02 ∷ 0x0A ∷ 0x03 ∷ 0x01 ∷ 0x02 ∷ 0x00 ∷ 0x01 ∷ 0x02 ∷ 0x00 ∷ 0x01 ∷ 0x00 ∷ 0x00 ∷ 0x00
+    ∷ 0x01 ∷ 0x02 ∷ 0x00 ∷ 0x01 ∷ 0x02 ∷ 0x00 ∷ 0x01 ∷ 0x00 ∷ 0x00 ∷ 0x00 ∷ []
+
+-- One stream of one bit up to its prior: C = 5, D = 2, R = 1, y = 2
+abbrev one : List ℤ
+one = pos 1 ∷ pos 1 ∷ pos 1 ∷ pos 5 ∷ pos 2 ∷ pos 1 ∷ pos 2 ∷ pos 0 ∷ []
+
+-- A list or a record, the entries that are lent, and what the call comes to
+pub record Case (A B : Type 0) : Type 0 where
+  pub given : List A
+  pub room : ℕ
+  pub comes : Filling B
+
+abbrev case : {A B : Type 0} → List A → ℕ → Filling B → Case A B
+case given room comes = record { given = given; room = room; comes = comes }
+
+unfoldable pub lists : List (Case ℤ ℕ)
+lists =
+    case listing 29 (filled listingBytes)
+    ∷ case listing 28 (refused Buffer)
+    ∷ case [] 0 (refused Ends)
+    ∷ case (pos 5 ∷ pos 8 ∷ []) 0 (refused Streams)
+    ∷ case (pos 4 ∷ pos 9 ∷ []) 0 (refused Width)
+    ∷ case (pos 4 ∷ pos 8 ∷ pos 0 ∷ []) 0 (refused Crowded)
+    ∷ case (pos 3 ∷ pos 8 ∷ pos 0 ∷ []) 0 (refused Vectors)
+    ∷ case (pos 2 ∷ pos 1 ∷ pos 1 ∷ negsuc 0 ∷ []) 0 (refused Clip)
+    ∷ case (pos 2 ∷ pos 1 ∷ pos 1 ∷ pos 10 ∷ pos 1 ∷ []) 0 (refused Share)
+    ∷ case (pos 2 ∷ pos 1 ∷ pos 1 ∷ pos 10 ∷ pos 2 ∷ pos 0 ∷ []) 0 (refused Diagonal)
+    ∷ case (pos 2 ∷ pos 1 ∷ pos 1 ∷ pos 10 ∷ pos 2 ∷ pos 1 ∷ pos 2048 ∷ []) 0 (refused Entry)
+    ∷ case (pos 1 ∷ pos 1 ∷ pos 1 ∷ pos 5 ∷ pos 2 ∷ pos 1 ∷ negsuc 131071 ∷ []) 0 (refused Received)
+    ∷ case one 0 (refused Ends)
+    -- "13 where it goes on" comes after a range, and before 14
+    ∷ case (one ++ pos 1048576 ∷ pos 0 ∷ []) 0 (refused Prior)
+    ∷ case (one ++ pos 0 ∷ pos 1048576 ∷ []) 0 (refused Trailing)
+    ∷ case (one ++ negsuc 64 ∷ []) 13 (refused Buffer)
+    ∷ case (one ++ negsuc 64 ∷ []) 14
+    (filled (0x43 ∷ 0x42 ∷ 0x52 ∷ 0x31 ∷ 0x01 ∷ 0x01 ∷ 0x01 ∷ 0x05 ∷ 0x02 ∷ 0x01 ∷ 0x04 ∷ 0x00 ∷ 0x81 ∷ 0x01 ∷ []))
+    ∷ []
+
+unfoldable pub records : List (Case ℕ ℤ)
+records =
+    case listingBytes 25 (filled listing)
+    ∷ case listingBytes 24 (refused Buffer)
+    ∷ case (listingBytes ++ 0x00 ∷ []) 24 (refused Trailing)
+    ∷ case (0x43 ∷ 0x42 ∷ 0x52 ∷ 0x31 ∷ 0x04 ∷ 0x08 ∷ []) 0 (refused Crowded)
+    ∷ []
+
+pub all-readings : (map (λ c. writing (c .given) (c .room)) lists ≡ map (λ c. c .comes) lists)
+    × (map (λ c. reading (c .given) (c .room)) records ≡ map (λ c. c .comes) records)
+unfolding lists records writing checked bytesFor recordOf calledFor vectorKinds kindsOf runsOf matrixRuns folded bytesOf groupsOf fitted reading
+    readWhole readRecord recordAt sizedAt vectorsAt numbersAt byNumber numberAt groups above lastGroup unfolded startsWith
+all-readings = (refl, refl)

@@ -1,0 +1,61 @@
+-- Document 02, Point 2: "a list of the record's whole numbers, unfolded, in; record bytes out", and the way back.
+use Prim.Native.Nat.{ℕ}
+use mathlib.Core.Bool.{cond}
+use mathlib.Core.List.{List, [], _∷_, _++_}
+use lib.IntN.{ℤ, natAbs}
+use Rattle.wire.specs.Writing.{bytesOf}
+use Rattle.wire.specs.Folding.{folded}
+use Rattle.block.specs.Table.{allowed, isFolded, refusalOf}
+use Rattle.block.specs.Reading.{opening, readWhole}
+use Rattle.block.specs.Conditions.{calledFor}
+use Rattle.block.specs.Filling.{Filling, refused, fitted}
+use Rattle.block.specs.declared.Kind.{Kind}
+use Rattle.block.specs.declared.Refusal.{Refusal}
+use Rattle.block.specs.declared.Refusal.the-variants.{Ends, Trailing}
+use Rattle.block.specs.declared.Read.{Read}
+use Rattle.block.specs.declared.Read.the-variants.{Ended, Refused}
+
+-- A list may be written, or is turned back
+pub data Verdict : Type 0 where
+  fine : Verdict
+  turned : Refusal → Verdict
+
+-- A list's numbers, one after the other, against the kinds that are called for: "4 to 12 and 15 in record order, 2 where the list ends early, 13
+-- where it goes on". The first check that fails decides
+unfoldable pub checked : List Kind → List ℤ → Verdict
+checked [] [] = fine
+checked [] (z ∷ zs) = turned Trailing
+checked (k ∷ ks) [] = turned Ends
+checked (k ∷ ks) (z ∷ zs) = cond (allowed k z) (checked ks zs) (turned (refusalOf k z))
+
+-- The plain number that a whole number is written as: "folded" where its kind is
+abbrev pub plainOf : Kind → ℤ → ℕ
+plainOf k z = cond (isFolded k) (folded z) (natAbs z)
+
+-- Numbers of some kinds, each in its groups
+unfoldable pub bytesFor : List Kind → List ℤ → List ℕ
+bytesFor [] zs = []
+bytesFor (k ∷ ks) [] = []
+bytesFor (k ∷ ks) (z ∷ zs) = bytesOf (plainOf k z) ++ bytesFor ks zs
+
+-- The record of a list: the opening, and each number as the kind that the list's own first numbers call for there
+unfoldable pub recordOf : List ℤ → List ℕ
+recordOf numbers = opening ++ bytesFor (calledFor numbers) numbers
+
+-- "then 14 when the record is longer than the lent buffer"
+abbrev pub byVerdict : ℕ → List ℕ → Verdict → Filling ℕ
+byVerdict room bytes fine = fitted room bytes
+byVerdict room bytes (turned r) = refused r
+
+-- Writing any list into a lent buffer of `room` bytes
+unfoldable pub writing : List ℤ → ℕ → Filling ℕ
+writing numbers room = byVerdict room (recordOf numbers) (checked (calledFor numbers) numbers)
+
+-- Of a record that is read: its numbers, 14 where they are more than the lent list has places
+abbrev pub byRead : ℕ → List ℤ → Read → Filling ℤ
+byRead room numbers (Ended at) = fitted room numbers
+byRead room numbers (Refused r) = refused r
+
+-- Reading any bytes into a lent list of `room` numbers: refused as a record is, then by 14
+unfoldable pub reading : List ℕ → ℕ → Filling ℤ
+reading bytes room = byRead room (readWhole bytes .numbers) (readWhole bytes .read)

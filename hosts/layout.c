@@ -1,0 +1,100 @@
+#include "layout.h"
+
+#include <inttypes.h>
+
+/* The numbers before the first vector, in their order. */
+static const char *const SIZES[] = {
+    "M, the number of streams", "Q, the bits of a symbol", "N, the number of vectors", "C, the clip", "D, the share",
+};
+enum { SIZES_COUNT = sizeof SIZES / sizeof SIZES[0] };
+
+/* How many numbers a row of R has, rows counted from 1: the diagonal entry, and two for each entry right of it. */
+static size_t row_numbers(size_t streams, size_t row)
+{
+    return 1 + 2 * (streams - row);
+}
+
+/* Real and imaginary parts take turns. */
+static const char *part(size_t at)
+{
+    return at % 2 == 0 ? "real part" : "imaginary part";
+}
+
+/* A number of R, which has `streams` squared of them, row by row. */
+static void print_entry(FILE *file, size_t at, size_t streams)
+{
+    size_t row = 1;
+    while (at >= row_numbers(streams, row)) {
+        at -= row_numbers(streams, row);
+        row++;
+    }
+    if (at == 0) {
+        fprintf(file, "R's row %zu, diagonal entry", row);
+    } else {
+        fprintf(file, "R's row %zu, %s of the entry in column %zu", row, part(at - 1), row + 1 + (at - 1) / 2);
+    }
+}
+
+/* A number of a vector: R, then y, then the priors. */
+static void print_vector_place(FILE *file, size_t at, size_t streams, size_t bits)
+{
+    size_t matrix = streams * streams;
+    size_t received = 2 * streams;
+    if (at < matrix) {
+        print_entry(file, at, streams);
+    } else if (at < matrix + received) {
+        fprintf(file, "y's row %zu, %s", (at - matrix) / 2 + 1, part(at - matrix));
+    } else {
+        size_t prior = at - matrix - received;
+        fprintf(file, "prior of stream %zu, bit %zu", prior / bits + 1, prior % bits + 1);
+    }
+}
+
+void print_place(FILE *file, size_t index, const int32_t *numbers)
+{
+    if (index < SIZES_COUNT) {
+        fprintf(file, "%s", SIZES[index]);
+        return;
+    }
+    size_t streams = (size_t)numbers[0];
+    size_t bits = (size_t)numbers[1];
+    size_t in_vector = streams * streams + 2 * streams + streams * bits;
+    size_t at = index - SIZES_COUNT;
+    fprintf(file, "vector %zu, ", at / in_vector + 1);
+    print_vector_place(file, at % in_vector, streams, bits);
+}
+
+/* Prints so many numbers, and returns where the next one stands. */
+static const int32_t *print_numbers(const int32_t *next, size_t count)
+{
+    for (size_t at = 0; at < count; at++) {
+        printf("%s%" PRId32, at == 0 ? "" : " ", next[at]);
+    }
+    return next + count;
+}
+
+/* A line for each row of R, one for y, and one for each stream's priors. Returns where the next vector stands. */
+static const int32_t *print_vector(const int32_t *next, size_t streams, size_t bits)
+{
+    for (size_t row = 1; row <= streams; row++) {
+        next = print_numbers(next, row_numbers(streams, row));
+        printf("   # R, row %zu\n", row);
+    }
+    next = print_numbers(next, 2 * streams);
+    printf("   # y\n");
+    for (size_t stream = 1; stream <= streams; stream++) {
+        next = print_numbers(next, bits);
+        printf("   # priors, stream %zu\n", stream);
+    }
+    return next;
+}
+
+void print_text(const int32_t *numbers)
+{
+    const int32_t *next = print_numbers(numbers, SIZES_COUNT);
+    printf("   # M Q N C D\n");
+    for (int32_t vector = 1; vector <= numbers[2]; vector++) {
+        printf("# vector %" PRId32 "\n", vector);
+        next = print_vector(next, (size_t)numbers[0], (size_t)numbers[1]);
+    }
+}

@@ -1,0 +1,294 @@
+//! Block records made of their numbers, and the numbers taken back, by document 02's Point 2: both fill lent memory. A list's
+//! numbers are ranged here on their own, in record order and without the record reader, so that writer and reader can be held to
+//! each other.
+
+use crate::record::{self, folded, plain, Refusal, OPENING};
+use std::ops::RangeInclusive;
+
+/// Writes the record of a list of whole numbers, unfolded and in record order. How many bytes it wrote, or minus the refusal
+/// number.
+pub fn write(numbers: &[i32], record: &mut [u8]) -> i64 {
+    let mut writer = Writer::of(numbers);
+    let verdict = writer.take_all();
+    fill(record, verdict.map(|()| writer.bytes))
+}
+
+/// Reads a record into a list of its whole numbers, unfolded. How many numbers it wrote, or minus the refusal number.
+pub fn read(record: &[u8], numbers: &mut [i32]) -> i64 {
+    let narrow = |number: i64| i32::try_from(number).expect("a number in its range has 32 bits");
+    let verdict = record::read(record);
+    fill(numbers, verdict.map(|all| all.into_iter().map(narrow).collect()))
+}
+
+/// The rule for lent memory: entries that fit are put at its front and counted, a refusal alters nothing, and 14 comes last.
+fn fill<T: Copy>(lent: &mut [T], verdict: Result<Vec<T>, Refusal>) -> i64 {
+    match verdict {
+        Err(refusal) => -i64::from(refusal),
+        Ok(entries) if entries.len() > lent.len() => -14,
+        Ok(entries) => {
+            lent[..entries.len()].copy_from_slice(&entries);
+            entries.len() as i64
+        }
+    }
+}
+
+/// The bytes that are made before a list is accepted or refused.
+pub fn made_so_far(numbers: &[i32]) -> Vec<u8> {
+    let mut writer = Writer::of(numbers);
+    let _ = writer.take_all();
+    writer.bytes
+}
+
+/// A list that is gone through: what is left of it, and the bytes made of what was taken.
+struct Writer<'a> {
+    rest: &'a [i32],
+    bytes: Vec<u8>,
+}
+
+impl Writer<'_> {
+    fn of(numbers: &[i32]) -> Writer<'_> {
+        Writer { rest: numbers, bytes: OPENING.to_vec() }
+    }
+
+    /// All numbers that are called for, each ranged as it is taken, and then nothing more.
+    fn take_all(&mut self) -> Result<(), Refusal> {
+        let streams = self.take_plain(1..=4, 4)?;
+        let bits = self.take_width(streams)?;
+        let vectors = self.take_plain(1..=64, 6)?;
+        self.take_plain(0..=16_777_215, 7)?;
+        self.take_plain(streams..=17_043_520, 8)?;
+        for _ in 0..vectors {
+            self.take_vector(streams, bits)?;
+        }
+        if self.rest.is_empty() {
+            Ok(())
+        } else {
+            Err(13)
+        }
+    }
+
+    /// R by rows, the diagonal entry and two parts for each one right of it; y, two parts for each row; a prior for each bit.
+    fn take_vector(&mut self, streams: i64, bits: i64) -> Result<(), Refusal> {
+        for row in 1..=streams {
+            self.take_plain(1..=2_047, 9)?;
+            self.take_folded(2 * (streams - row), 2_047, 10)?;
+        }
+        self.take_folded(2 * streams, 131_071, 11)?;
+        self.take_folded(streams * bits, 1_048_575, 12)
+    }
+
+    /// Q, by document 02's Point 1.
+    fn take_width(&mut self, streams: i64) -> Result<i64, Refusal> {
+        let bits = self.take()?;
+        match (bits, streams) {
+            (8, 4) => Err(15),
+            (1 | 2 | 4 | 6 | 8, _) => {
+                self.bytes.extend(plain(bits));
+                Ok(bits)
+            }
+            _ => Err(5),
+        }
+    }
+
+    fn take_plain(&mut self, range: RangeInclusive<i64>, refusal: Refusal) -> Result<i64, Refusal> {
+        let number = self.take()?;
+        if !range.contains(&number) {
+            return Err(refusal);
+        }
+        self.bytes.extend(plain(number));
+        Ok(number)
+    }
+
+    /// So many numbers of either sign, up to a magnitude.
+    fn take_folded(&mut self, count: i64, magnitude: i64, refusal: Refusal) -> Result<(), Refusal> {
+        for _ in 0..count {
+            let number = self.take()?;
+            if number.abs() > magnitude {
+                return Err(refusal);
+            }
+            self.bytes.extend(folded(number));
+        }
+        Ok(())
+    }
+
+    /// The list's next number, of any size.
+    fn take(&mut self) -> Result<i64, Refusal> {
+        let (&number, after) = self.rest.split_first().ok_or(2_u32)?;
+        self.rest = after;
+        Ok(i64::from(number))
+    }
+}
+
+#[cfg(test)]
+mod tests {
+    use super::*;
+
+    /// Document 01's listing record and its numbers: the bench vector of two streams twice, C = 10, D = 3.
+    const LISTING: [i32; 25] = [2, 1, 2, 10, 3, 1, 1, 0, 1, 1, 0, -1, 0, 0, 0, 1, 1, 0, 1, 1, 0, -1, 0, 0, 0];
+    const LISTING_RECORD: [u8; 29] = [
+        0x43, 0x42, 0x52, 0x31, 0x02, 0x01, 0x02, 0x0A, 0x03, 0x01, 0x02, 0x00, 0x01, 0x02, 0x00, 0x01, 0x00, 0x00, 0x00, 0x01,
+        0x02, 0x00, 0x01, 0x02, 0x00, 0x01, 0x00, 0x00, 0x00,
+    ];
+
+    /// M = 2, Q = 1, N = 1: R, y and two priors.
+    const BENCH: [i32; 15] = [2, 1, 1, 10, 5, 1, 1, 0, 1, 1, 0, -1, 0, 0, 0];
+
+    /// What is returned for the bench vector with another number at some places; a refusal alters nothing.
+    fn with(changes: &[(usize, i32)]) -> i64 {
+        let mut numbers = BENCH;
+        for &(at, number) in changes {
+            numbers[at] = number;
+        }
+        verdict(&numbers)
+    }
+
+    /// What is returned for a list, with a buffer that every record of these tests fits.
+    fn verdict(numbers: &[i32]) -> i64 {
+        let mut record = [0xA5; 64];
+        let returned = write(numbers, &mut record);
+        let written = usize::try_from(returned).unwrap_or(0);
+        assert!(record[written..].iter().all(|&byte| byte == 0xA5), "{numbers:?}");
+        returned
+    }
+
+    #[test]
+    fn the_listing_record_both_ways() {
+        let mut record = [0xA5; 31];
+        assert_eq!(write(&LISTING, &mut record), 29);
+        assert_eq!(record[..29], LISTING_RECORD);
+        assert_eq!(record[29..], [0xA5; 2]);
+        let mut numbers = [77; 27];
+        assert_eq!(read(&LISTING_RECORD, &mut numbers), 25);
+        assert_eq!(numbers[..25], LISTING);
+        assert_eq!(numbers[25..], [77; 2]);
+    }
+
+    #[test]
+    fn what_is_lent_may_just_do() {
+        let mut record = [0xA5; 29];
+        assert_eq!(write(&LISTING, &mut record), 29);
+        assert_eq!(record, LISTING_RECORD);
+        let mut numbers = [77; 25];
+        assert_eq!(read(&LISTING_RECORD, &mut numbers), 25);
+        assert_eq!(numbers, LISTING);
+    }
+
+    #[test]
+    fn one_entry_short_is_14_and_alters_nothing() {
+        let mut record = [0xA5; 28];
+        assert_eq!(write(&LISTING, &mut record), -14);
+        assert_eq!(record, [0xA5; 28]);
+        let mut numbers = [77; 24];
+        assert_eq!(read(&LISTING_RECORD, &mut numbers), -14);
+        assert_eq!(numbers, [77; 24]);
+    }
+
+    /// A place of the bench list, both ends of its range, and the refusal beyond them. M and Q have tests of their own.
+    #[test]
+    fn both_ends_of_each_range() {
+        let places = [
+            (3, 0, 16_777_215, 7),
+            (4, 2, 17_043_520, 8),
+            (5, 1, 2_047, 9),
+            (6, -2_047, 2_047, 10),
+            (7, -2_047, 2_047, 10),
+            (8, 1, 2_047, 9),
+            (9, -131_071, 131_071, 11),
+            (12, -131_071, 131_071, 11),
+            (13, -1_048_575, 1_048_575, 12),
+            (14, -1_048_575, 1_048_575, 12),
+        ];
+        for (at, least, greatest, refusal) in places {
+            assert!(with(&[(at, least)]) > 0 && with(&[(at, greatest)]) > 0, "{at}");
+            for beyond in [least - 1, greatest + 1, i32::MIN, i32::MAX] {
+                assert_eq!(with(&[(at, beyond)]), -refusal, "{at}: {beyond}");
+            }
+        }
+    }
+
+    #[test]
+    fn streams_bits_and_vectors() {
+        let sizes = |numbers: &[i32]| -verdict(numbers);
+        for streams in [i32::MIN, -1, 0, 5, i32::MAX] {
+            assert_eq!(sizes(&[streams, 1]), 4);
+        }
+        for streams in 1..=4 {
+            assert_eq!([-8, 0, 3, 5, 7, 9, 10].map(|bits| sizes(&[streams, bits])), [5; 7]);
+            assert_eq!([1, 2, 4, 6].map(|bits| sizes(&[streams, bits])), [2; 4]);
+            assert_eq!(sizes(&[streams, 8]), if streams == 4 { 15 } else { 2 });
+        }
+        assert_eq!([i32::MIN, -1, 0, 65, i32::MAX].map(|vectors| sizes(&[1, 1, vectors])), [6; 5]);
+        assert_eq!([1, 64].map(|vectors| sizes(&[1, 1, vectors])), [2; 2]);
+    }
+
+    #[test]
+    fn fifteen_stands_at_the_width() {
+        assert_eq!(verdict(&[4, 8, 0]), -15);
+        assert_eq!(verdict(&[4, 9, 0]), -5);
+        assert_eq!(verdict(&[5, 8, 0]), -4);
+        assert_eq!(verdict(&[3, 8, 0]), -6);
+    }
+
+    #[test]
+    fn the_share_begins_at_the_number_of_streams() {
+        for streams in 1..=4 {
+            for share in 0..=5 {
+                let refusal = if share < streams { 8 } else { 2 };
+                assert_eq!(verdict(&[streams, 2, 1, 0, share]), -refusal, "M = {streams}, D = {share}");
+            }
+        }
+    }
+
+    #[test]
+    fn the_earlier_number_decides() {
+        assert_eq!(with(&[(3, -1), (14, i32::MAX)]), -7);
+        assert_eq!(with(&[(4, 1), (5, 0)]), -8);
+        assert_eq!(with(&[(12, 131_072), (13, 1_048_576)]), -11);
+    }
+
+    #[test]
+    fn a_list_that_ends_early() {
+        for length in 0..BENCH.len() {
+            assert_eq!(verdict(&BENCH[..length]), -2, "{length}");
+        }
+        assert_eq!(verdict(&[2, 1, 1, 10, 1]), -8);
+        assert_eq!(verdict(&[2, 1, 1, -1]), -7);
+    }
+
+    /// What follows the last number is not ranged.
+    #[test]
+    fn a_list_that_goes_on() {
+        for more in [&[0][..], &[i32::MIN], &[i32::MAX, 0, 0]] {
+            assert_eq!(verdict(&[&BENCH, more].concat()), -13);
+        }
+        let mut last_prior_beyond = [BENCH.as_slice(), &[0]].concat();
+        last_prior_beyond[14] = 1_048_576;
+        assert_eq!(verdict(&last_prior_beyond), -12);
+    }
+
+    #[test]
+    fn the_buffer_is_asked_last() {
+        let with_no_buffer = |numbers: &[i32]| write(numbers, &mut []);
+        assert_eq!(with_no_buffer(&BENCH), -14);
+        assert_eq!(with_no_buffer(&BENCH[..14]), -2);
+        assert_eq!(with_no_buffer(&[&BENCH[..14], &[i32::MAX]].concat()), -12);
+        assert_eq!(with_no_buffer(&[BENCH.as_slice(), &[0]].concat()), -13);
+    }
+
+    #[test]
+    fn the_list_is_asked_last() {
+        let with_no_list = |record: &[u8]| read(record, &mut []);
+        assert_eq!(with_no_list(&LISTING_RECORD), -14);
+        assert_eq!(with_no_list(&LISTING_RECORD[..28]), -2);
+        assert_eq!(with_no_list(&[LISTING_RECORD.as_slice(), &[0]].concat()), -13);
+        assert_eq!(with_no_list(&LISTING_RECORD[..3]), -1);
+    }
+
+    #[test]
+    fn bytes_are_made_up_to_the_fault() {
+        assert_eq!(made_so_far(&[]), OPENING);
+        assert_eq!(made_so_far(&LISTING), LISTING_RECORD);
+        assert_eq!(made_so_far(&[&LISTING[..20], &[131_072, 0]].concat()), LISTING_RECORD[..24]);
+        assert_eq!(made_so_far(&[4, 8, 1]), LISTING_RECORD[..4].iter().copied().chain([4]).collect::<Vec<_>>());
+    }
+}
