@@ -112,17 +112,17 @@ module _ (m q j : ℕ) where
       ∙ in-run BitPrior (m * q) [] (j - m * m - 2 * m) (omega arith)
 
 -- All vectors are alike
-pub kind-of-vectors : (n m q i : ℕ) → 1 ≤ m → i < n * vectorSize m q
+pub kind-of-vectors : (n m q i : ℕ) → i < n * vectorSize m q
     → at (vectorKinds n m q) i ≡ at (kindsOfVector m q) (i % vectorSize m q)
 unfolding vectorKinds
-kind-of-vectors zero m q i some h = absurd (omega arith)
-kind-of-vectors (suc n) m q i some h = go (ltb i (vectorSize m q)) refl (kind-of-vectors n m q)
+kind-of-vectors zero m q i h = absurd (omega arith)
+kind-of-vectors (suc n) m q i h = go (ltb i (vectorSize m q)) refl (kind-of-vectors n m q)
   where
     many : length (kindsOfVector m q) ≡ vectorSize m q
     many = vector-numbers m q
 
     go : (b : Bool) → ltb i (vectorSize m q) ≡ b
-        → ((i : ℕ) → 1 ≤ m → i < n * vectorSize m q → at (vectorKinds n m q) i ≡ at (kindsOfVector m q) (i % vectorSize m q))
+        → ((i : ℕ) → i < n * vectorSize m q → at (vectorKinds n m q) i ≡ at (kindsOfVector m q) (i % vectorSize m q))
         → at (kindsOfVector m q ++ vectorKinds n m q) i ≡ at (kindsOfVector m q) (i % vectorSize m q)
     go true e ih =
         let l = ltb-true i (vectorSize m q) e in
@@ -132,7 +132,7 @@ kind-of-vectors (suc n) m q i some h = go (ltb i (vectorSize m q)) refl (kind-of
         rw (mod-eq-sub-mod l)
         (behind (kindsOfVector m q) (vectorKinds n m q) i (omega (arith, many))
         ∙ ap (λ (s : ℕ). at (vectorKinds n m q) (i - s)) many
-        ∙ ih (i - vectorSize m q) some (omega (arith, suc-mul n (vectorSize m q))))
+        ∙ ih (i - vectorSize m q) (omega (arith, suc-mul n (vectorSize m q))))
 
 -- What a list calls for: M alone of an empty one, the header of a short one, and behind D the vectors
 module _ (numbers : List ℤ) where
@@ -162,17 +162,17 @@ module _ (numbers : List ℤ) where
           (in-front (headerKinds streams) (vectorKinds (countAt 2 numbers) (countAt 0 numbers) (countAt 1 numbers)) i (omega arith))
       go false e = rw (called-few some (ltb-false 4 (length numbers) e))
 
-  pub called-vector : 4 < length numbers → 1 ≤ countAt 0 numbers → (i : ℕ) → 5 ≤ i → i < length (calledFor numbers)
+  pub called-vector : 4 < length numbers → (i : ℕ) → 5 ≤ i → i < length (calledFor numbers)
       → at (calledFor numbers) i
       ≡ at (kindsOfVector (countAt 0 numbers) (countAt 1 numbers)) ((i - 5) % vectorSize (countAt 0 numbers) (countAt 1 numbers))
   unfolding recordKinds kindsOf runsOf
-  called-vector many some i h l =
+  called-vector many i h l =
       let all = rw (called-many many) at l in
       rw (called-many many)
       (behind (headerKinds streams) (vectorKinds (countAt 2 numbers) (countAt 0 numbers) (countAt 1 numbers)) i h
-      ∙ kind-of-vectors (countAt 2 numbers) (countAt 0 numbers) (countAt 1 numbers) (i - 5) some (omega (arith, kinds-count numbers)))
+      ∙ kind-of-vectors (countAt 2 numbers) (countAt 0 numbers) (countAt 1 numbers) (i - 5) (omega (arith, kinds-count numbers)))
 
--- A kind whose plain numbers are none below 0
+-- A kind whose plain numbers are none below 0: the share's range begins at M
 abbrev pub Grounded : Kind → Type 0
 Grounded StreamCount = Unit {0}
 Grounded (SymbolWidth m) = Unit {0}
@@ -206,7 +206,7 @@ vectors-grounded (suc n) m q =
     (every-run ReceivedPart (2 * m) (kindsOf (run BitPrior (m * q) ∷ [])) tt (every-run BitPrior (m * q) [] tt tt)))
     (vectors-grounded n m q)
 
--- As all are that a list calls for whose M is none below 0
+-- All kinds are that a list calls for whose M is none below 0
 pub called-grounded : (numbers : List ℤ) → leZ (pos 0) (streams numbers) ≡ true → Every Grounded (calledFor numbers)
 unfolding calledFor kindsOf runsOf
 called-grounded numbers h = go (ltb 0 (length numbers)) (ltb 4 (length numbers))

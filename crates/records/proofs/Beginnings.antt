@@ -23,7 +23,7 @@ use Rattle.block.specs.declared.Refusal.the-variants.{Ends, Trailing}
 use Rattle.block.proofs.CalledFor.{called-header, called-vector}
 use Rattle.records.specs.Writing.{fine, turned, checked}
 use Rattle.records.specs.Steps.{kindAt, FirstAllowed}
-use Rattle.records.proofs.Places.{called-all, called-five, called-one, sized}
+use Rattle.records.proofs.Places.{called-all, called-five, called-one}
 use Rattle.records.proofs.Checking.{checkedFrom, checked-more, checked-turned, checked-short, checked-long, checked-fine}
 
 -- The number at i is called for and out of its range
@@ -49,8 +49,8 @@ until l (suc i) first h c =
     until l i (λ j k. first j (omega arith)) (omega arith) (omega arith) ∙ checked-more l i (omega arith) (omega arith) (first i (omega arith))
     ∙ ap (checkedFrom l) (add-one i)
 
--- The first k numbers of a list, of which i are in their ranges
-module _ (numbers : List ℤ) (k : ℕ) (most : k ≤ length numbers) (i : ℕ) (first : FirstAllowed numbers i) where
+-- The first k numbers of a list
+module _ (numbers : List ℤ) (k : ℕ) (most : k ≤ length numbers) where
   abbrev begin : List ℤ
   begin = take k numbers
 
@@ -75,23 +75,21 @@ module _ (numbers : List ℤ) (k : ℕ) (most : k ≤ length numbers) (i : ℕ) 
       called-all begin (omega (arith, many))
       ∙ rw (size-same 0 (omega arith), size-same 1 (omega arith), size-same 2 (omega arith)) (sym (called-all numbers (omega arith)))
 
-  vector-same : 5 ≤ k → 5 ≤ i → (j : ℕ) → 5 ≤ j → j < length (calledFor numbers) → kindAt begin j ≡ kindAt numbers j
-  vector-same h g j low high =
-      let s = sized numbers i (omega arith) first g (omega arith) in
-      called-vector begin (omega (arith, many)) (omega (arith, s .stream, size-same 0 (omega arith))) j low (omega (arith, count-same h))
+  vector-same : 5 ≤ k → (j : ℕ) → 5 ≤ j → j < length (calledFor numbers) → kindAt begin j ≡ kindAt numbers j
+  vector-same h j low high =
+      called-vector begin (omega (arith, many)) j low (omega (arith, count-same h))
       ∙ ap₂ (λ (m q : ℕ). getD (kindsOfVector m q) ((j - 5) % vectorSize m q) StreamCount) (size-same 0 (omega arith))
       (size-same 1 (omega arith))
-      ∙ sym (called-vector numbers (omega arith) (s .stream) j low high)
+      ∙ sym (called-vector numbers (omega arith) j low high)
 
-  kind-same : (j : ℕ) → j ≤ i → j ≤ k → j < length (calledFor numbers) → kindAt begin j ≡ kindAt numbers j
+  kind-same : (j : ℕ) → j ≤ k → j < length (calledFor numbers) → kindAt begin j ≡ kindAt numbers j
   unfolding calledFor kindsOf runsOf
-  kind-same zero a b c = refl
-  kind-same (suc j) a b c = go (ltb (suc j) 5) refl
+  kind-same zero b c = refl
+  kind-same (suc j) b c = go (ltb (suc j) 5) refl
     where
       go : (t : Bool) → ltb (suc j) 5 ≡ t → kindAt begin (suc j) ≡ kindAt numbers (suc j)
       go true e = header-same (omega arith) (suc j) (ltb-true (suc j) 5 e)
-      go false e =
-          let five = ltb-false (suc j) 5 e in vector-same (omega arith) (omega arith) (suc j) five c
+      go false e = let five = ltb-false (suc j) 5 e in vector-same (omega arith) (suc j) five c
 
   is-called : (j : ℕ) → j ≤ k → j < length (calledFor numbers) → j < length (calledFor begin)
   is-called zero b c = called-one begin
@@ -101,13 +99,13 @@ module _ (numbers : List ℤ) (k : ℕ) (most : k ≤ length numbers) (i : ℕ) 
       go true e = omega (arith, called-five begin (omega (arith, many)), ltb-true k 5 e)
       go false e = omega (arith, count-same (ltb-false k 5 e))
 
-  -- so they are in their ranges too
-  begin-allowed : i ≤ k → i ≤ length (calledFor numbers) → FirstAllowed begin i
-  begin-allowed h c j l =
-      ap₂ allowed (kind-same j (omega arith) (omega arith) (omega arith)) (number-same j (omega arith)) ∙ first j l
+  -- so where the first i numbers are in their ranges, the others decide of them too
+  module _ (i : ℕ) (first : FirstAllowed numbers i) (h : i ≤ k) (c : i ≤ length (calledFor numbers)) where
+    begin-allowed : FirstAllowed begin i
+    begin-allowed j l = ap₂ allowed (kind-same j (omega arith) (omega arith)) (number-same j (omega arith)) ∙ first j l
 
-  begin-until : i ≤ k → i ≤ length (calledFor numbers) → i ≤ length (calledFor begin) → checked (calledFor begin) begin ≡ checkedFrom begin i
-  begin-until h c d = until begin i (begin-allowed h c) (omega (arith, many)) d
+    begin-until : i ≤ length (calledFor begin) → checked (calledFor begin) begin ≡ checkedFrom begin i
+    begin-until d = until begin i begin-allowed (omega (arith, many)) d
 
 -- A list that is refused for number i
 module _ (numbers : List ℤ) (i : ℕ) (r : Refusal) (f : RefusedFor numbers i r) where
@@ -115,28 +113,25 @@ module _ (numbers : List ℤ) (i : ℕ) (r : Refusal) (f : RefusedFor numbers i 
   pub beginning-same : (k : ℕ) → i < k → k ≤ length numbers → checked (calledFor (take k numbers)) (take k numbers) ≡ turned r
   beginning-same k h most = ⊎-elim ranged trailing (f .why)
     where
-      first : FirstAllowed numbers i
-      first = f .before
-
       size : length (take k numbers) ≡ k
-      size = many numbers k most i first
+      size = many numbers k most
 
       number-is : getD (take k numbers) i (pos 0) ≡ getD numbers i (pos 0)
-      number-is = number-same numbers k most i first i h
+      number-is = number-same numbers k most i h
 
       ranged : OutOfRangeAt numbers i r → checked (calledFor (take k numbers)) (take k numbers) ≡ turned r
       ranged w =
-          let called = is-called numbers k most i first i (omega arith) (w .0) in
-          let kind-is = kind-same numbers k most i first i (omega arith) (omega arith) (w .0) in
-          begin-until numbers k most i first (omega arith) (omega (arith, w .0)) (omega arith)
+          let called = is-called numbers k most i (omega arith) (w .0) in
+          let kind-is = kind-same numbers k most i (omega arith) (w .0) in
+          begin-until numbers k most i (f .before) (omega arith) (omega (arith, w .0)) (omega arith)
           ∙ checked-turned (take k numbers) i called (omega (arith, size)) (ap₂ allowed kind-is number-is ∙ w .1)
           ∙ ap turned (ap₂ refusalOf kind-is number-is ∙ sym (w .2))
 
       trailing : TooManyAt numbers i r → checked (calledFor (take k numbers)) (take k numbers) ≡ turned r
       trailing w =
           let five = called-five numbers (omega (arith, f .inside)) in
-          let same = count-same numbers k most i first (omega (arith, w .0)) in
-          begin-until numbers k most i first (omega arith) (omega (arith, w .0)) (omega (arith, w .0))
+          let same = count-same numbers k most (omega (arith, w .0)) in
+          begin-until numbers k most i (f .before) (omega arith) (omega (arith, w .0)) (omega (arith, w .0))
           ∙ checked-long (take k numbers) i (omega (arith, w .0)) (omega (arith, size)) ∙ ap turned (sym (w .1))
 
   -- and each that ends before it passes all its checks: it is cut short, or whole
@@ -151,7 +146,7 @@ module _ (numbers : List ℤ) (i : ℕ) (r : Refusal) (f : RefusedFor numbers i 
       most = omega (arith, f .inside)
 
       size : length (take k numbers) ≡ k
-      size = many numbers k most k first
+      size = many numbers k most
 
       passes : k ≤ length (calledFor numbers) → k ≤ length (calledFor (take k numbers))
           → checked (calledFor (take k numbers)) (take k numbers) ≡ checkedFrom (take k numbers) k
@@ -162,13 +157,13 @@ module _ (numbers : List ℤ) (i : ℕ) (r : Refusal) (f : RefusedFor numbers i 
           ⊎ (checked (calledFor (take k numbers)) (take k numbers) ≡ fine)
       go true e w =
           let c = ltb-true k (length (calledFor numbers)) e in
-          let called = is-called numbers k most k first k (omega arith) c in
+          let called = is-called numbers k most k (omega arith) c in
           inl (passes (omega arith) (omega arith) ∙ checked-short (take k numbers) k called (omega (arith, size)))
       go false e (inl w) = absurd (omega (arith, w .0, ltb-false k (length (calledFor numbers)) e))
       go false e (inr w) =
           let c = ltb-false k (length (calledFor numbers)) e in
           let five = called-five numbers (omega (arith, f .inside)) in
-          let same = count-same numbers k most k first (omega (arith, w .0)) in
+          let same = count-same numbers k most (omega (arith, w .0)) in
           inr (passes (omega (arith, w .0)) (omega (arith, w .0)) ∙ checked-fine (take k numbers) k (omega (arith, w .0)) (omega (arith, size)))
 
 -- Why a check fails at a place

@@ -25,7 +25,7 @@ use Rattle.block.proofs.CalledFor.{called-none, called-few, called-many, called
 use Rattle.records.specs.Steps.{kindAt, FirstAllowed, Asked, Called, Sized, numberCount}
 use Rattle.records.proofs.Numbers.{Written, written}
 
--- The first of some kinds is none below 0 where the kinds are
+-- Of kinds that are all grounded, each by its place
 every-at : (ks : List Kind) → Every Grounded ks → (i : ℕ) → i < length ks → Grounded (getD ks i StreamCount)
 every-at [] g i h = absurd (omega arith)
 every-at (k ∷ ks) g zero h = g .0
@@ -105,7 +105,7 @@ written-at numbers i h some first =
     (every-at (calledFor numbers) (called-grounded numbers (streams-plain numbers (i + 1) some first (omega arith))) i h)
     (first i (omega arith))
 
--- So are all kinds of a list all of whose numbers are in their ranges
+-- The kinds of a list all of whose numbers are in their ranges are grounded
 pub all-grounded : (numbers : List ℤ) → AllAllowed (calledFor numbers) numbers → Every Grounded (calledFor numbers)
 all-grounded numbers a =
     let many = allowed-length (calledFor numbers) numbers a in

@@ -42,7 +42,7 @@ returns-2 c =
     let s = e .before in
     let r = in-range e in
     (rw (m .count-at .ensures, q .count-at2 .ensures) at (c .vector-kind .ensures))
-    ∙ sym (called-vector (s .args .numbers .now) (r .header) (r .stream) (s .args .i) (e .if1 .left) (s .pre .called))
+    ∙ sym (called-vector (s .args .numbers .now) (r .header) (s .args .i) (e .if1 .left) (s .pre .called))
 
 pub kind-at-spec : {M : Type 1} → statement M
 kind-at-spec =
