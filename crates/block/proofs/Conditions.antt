@@ -32,7 +32,7 @@ use Rattle.block.specs.declared.Refusal.{Refusal}
 use Rattle.block.specs.declared.Refusal.the-variants.{Opening, Ends, Malformed, Streams, Width, Vectors, Clip, Share, Diagonal}
 use Rattle.block.specs.declared.Refusal.the-variants.{Entry, Received, Prior, Trailing, Buffer, Crowded}
 use Rattle.block.proofs.Ranges.{crowded-is}
-use Rattle.block.proofs.Reading.{one-turned, one-found, numbers-keep}
+use Rattle.block.proofs.Reading.{by-turned, one-found, numbers-keep}
 use Rattle.block.proofs.Opening.{starts-short}
 use Rattle.block.proofs.Flat.{joined, numbers-append, called-reads, called-only, accepted-opens, accepted-called, accepted-all}
 use Rattle.block.proofs.Accepted.{accepted-in-range}
@@ -198,7 +198,7 @@ refused-by bytes r e = go (startsWith opening bytes) refl e
 is-refused : (bytes : List ℕ) (k : Kind) {Holds : ℤ → Type 0} (o : NextIs bytes k Holds) → allowed k (wholeOf k (o .n)) ≡ false
     → readWhole bytes .read ≡ Refused (refusalOf k (wholeOf k (o .n)))
 is-refused bytes k o outside =
-    let turned = one-turned k bytes (o .at) (o .n) (o .after) (o .value) outside in
+    let turned = ap (byNumber k) (o .value) ∙ by-turned k (o .n) (o .after) outside in
     next-is bytes k (o .at) (refusalOf k (wholeOf k (o .n))) (o .next) turned
 
 range-refused : (bytes : List ℕ) (k : Kind) (o : OutOfRange bytes k) → readWhole bytes .read ≡ Refused (refusalOf k (wholeOf k (o .n)))

@@ -1,16 +1,18 @@
 -- What a range test that passed says of the number.
-use Prim.Native.Nat.{ℕ, zero, suc, _≤_}
+use Prim.Native.Nat.{ℕ, zero, suc, _+_, _*_, _/_, _%_, _≤_}
 use mathlib.Core.Path.{_≡_, refl, sym, _∙_, ap, subst}
-use mathlib.Core.Bool.{Bool, true, false, not, _&&_, _||_, true≢false}
+use mathlib.Core.Bool.{Bool, true, false, cond, not, _&&_, _||_, true≢false}
 use mathlib.Core.List.{List, [], _∷_, List·Memᴰ·head, List·Memᴰ·tail}
 use native.Mathlib.Omega.{arith}
-use lib.Dec.{leb, leb·zero}
-use borrow.Author.Tests.{leb-true, not-true}
+use lib.Dec.{leb, leb·zero, eqb}
+use borrow.Author.Tests.{leb-true, le-leb, eqb-false, not-true}
 use lib.IntN.{ℤ, pos, negsuc, negℤ, natAbs}
 use lib.Signed.{leZ}
-use Rattle.model.specs.Block.{_∈_, widths}
+use Rattle.model.specs.Block.{_∈_, widths, mostEntry, mostReceived, mostPrior}
+use Rattle.wire.specs.Folding.{unfolded}
 use Rattle.block.specs.Table.{between, oneOf, crowded, allowed}
-use Rattle.block.specs.declared.Kind.the-variants.{SymbolWidth}
+use Rattle.block.specs.Reading.{byNumber, Sure}
+use Rattle.block.specs.declared.Kind.the-variants.{SymbolWidth, RightPart, ReceivedPart, BitPrior}
 
 and-left : (a b : Bool) → (a && b) ≡ true → a ≡ true
 and-left true b e = refl
@@ -72,3 +74,27 @@ crowded-is m z e =
     let eight = between (pos 8) (pos 8) z in
     let four = between (pos 4) (pos 4) m in
     (between-one 8 z (and-left eight four e), between-one 4 m (and-right eight four e))
+
+-- A folded number of at most twice b is from -b to b
+folded-within : (b n : ℕ) → n ≤ 2 * b → between (negℤ (pos b)) (pos b) (unfolded n) ≡ true
+unfolding unfolded
+folded-within zero n h = let none : n ≡ 0 = omega arith in rw none
+folded-within (suc a) n h = go (eqb (n % 2) 0) refl
+  where
+    go : (t : Bool) → eqb (n % 2) 0 ≡ t → between (negsuc a) (pos (suc a)) (cond t (pos (n / 2)) (negsuc (n / 2))) ≡ true
+    go true e = le-leb (n / 2) (suc a) (omega arith)
+    go false e = let odd = eqb-false (n % 2) 0 e in rw (le-leb (n / 2) a (omega arith))
+
+-- so below a bound numbers of the kinds that come in runs need no test of their own
+module _ (bound : ℕ) where
+  pub sure-right : bound ≤ 2 * mostEntry + 1 → Sure RightPart bound
+  unfolding byNumber
+  sure-right b = record { taken = λ n next h. rw (folded-within mostEntry n (omega arith)) }
+
+  pub sure-received : bound ≤ 2 * mostReceived + 1 → Sure ReceivedPart bound
+  unfolding byNumber
+  sure-received b = record { taken = λ n next h. rw (folded-within mostReceived n (omega arith)) }
+
+  pub sure-prior : bound ≤ 2 * mostPrior + 1 → Sure BitPrior bound
+  unfolding byNumber
+  sure-prior b = record { taken = λ n next h. rw (folded-within mostPrior n (omega arith)) }

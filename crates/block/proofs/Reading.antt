@@ -24,15 +24,15 @@ pub ranged-first : oneAt StreamCount (5 ∷ []) 0 ≡ Turned Streams
 unfolding byNumber numberAt groups lastGroup
 ranged-first = refl
 
-module _ (k : Kind) (bytes : List ℕ) (at n next : ℕ) (found : numberAt bytes at ≡ Value n next) where
-  -- A number in range is taken, any other turned back
-  pub one-taken : allowed k (wholeOf k n) ≡ true → oneAt k bytes at ≡ Taken (wholeOf k n) next
+-- A number in range is taken, any other turned back
+module _ (k : Kind) (n next : ℕ) where
+  pub by-taken : allowed k (wholeOf k n) ≡ true → byNumber k (Value n next) ≡ Taken (wholeOf k n) next
   unfolding byNumber
-  one-taken e = rw (found, e)
+  by-taken e = rw e
 
-  pub one-turned : allowed k (wholeOf k n) ≡ false → oneAt k bytes at ≡ Turned (refusalOf k (wholeOf k n))
+  pub by-turned : allowed k (wholeOf k n) ≡ false → byNumber k (Value n next) ≡ Turned (refusalOf k (wholeOf k n))
   unfolding byNumber
-  one-turned e = rw (found, e)
+  by-turned e = rw e
 
 -- A number that was taken
 pub record Found (k : Kind) (bytes : List ℕ) (at : ℕ) (z : ℤ) (next : ℕ) : Type 0 where
@@ -62,7 +62,7 @@ pub numbers-taken : (k : Kind) (ks : List Kind) (bytes : List ℕ) (at n next : 
     → allowed k (wholeOf k n) ≡ true → numbersAt (k ∷ ks) bytes at
     ≡ record { numbers = wholeOf k n ∷ numbersAt ks bytes next .numbers; read = numbersAt ks bytes next .read }
 unfolding numbersAt
-numbers-taken k ks bytes at n next found e = rw (one-taken k bytes at n next found e)
+numbers-taken k ks bytes at n next found e = rw (found, by-taken k n next e)
 
 -- The first of some numbers that were read to their end, and the others
 pub record FirstRead (k : Kind) (ks : List Kind) (bytes : List ℕ) (at end : ℕ) : Type 0 where

@@ -1,6 +1,7 @@
 -- Document 01, "The record": reading a block record from any list of bytes. "Checks follow the record's order; each number is read, then
 -- ranged, before the next. The first that fails decides."
-use Prim.Native.Nat.{ℕ, zero, suc, _+_, _*_, _≤_}
+use Prim.Native.Nat.{ℕ, zero, suc, _+_, _*_, _<_, _≤_}
+use mathlib.Core.Path.{_≡_}
 use mathlib.Core.Bool.{Bool, true, false, cond, _&&_}
 use mathlib.Core.List.{List, [], _∷_, _++_}
 use lib.Dec.{ltb, eqb}
@@ -38,6 +39,10 @@ byNumber k Malformed = Turned NoNumber
 -- One number of a kind at a place: "each number is read, then ranged"
 abbrev pub oneAt : Kind → List ℕ → ℕ → One
 oneAt k bytes at = byNumber k (numberAt bytes at)
+
+-- Below a bound, a number of a kind is folded and in its range
+pub record Sure (k : Kind) (bound : ℕ) : Type 0 where
+  pub taken : (n next : ℕ) → n < bound → byNumber k (Value n next) ≡ Taken (unfolded n) next
 
 -- What was read: the whole numbers taken, and how it ended
 pub record Parse : Type 0 where

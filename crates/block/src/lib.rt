@@ -7,7 +7,7 @@ ghost use lib.IntN.{pos, negℤ, natAbs};
 ghost use lib.ListN.{length, getD, replicate};
 ghost use Rattle.block.specs.Table.{refusalNumber, refusalOf, between, oneOf, crowded, allowed, isFolded};
 ghost use Rattle.model.specs.Block.{widths, mostStreams, mostWidth};
-ghost use Rattle.block.specs.Reading.{wholeOf, oneAt, noRun, kindsOf, Small, countAt, vectorSize, vectorsAt, sizedAt, numbersAt, run, runsOf, partAt, readRecord, readWhole, got, into, startsWith, opening};
+ghost use Rattle.block.specs.Reading.{wholeOf, byNumber, oneAt, Sure, noRun, kindsOf, Small, countAt, vectorSize, vectorsAt, sizedAt, numbersAt, run, runsOf, partAt, readRecord, readWhole, got, into, startsWith, opening};
 
 // How many whole numbers a record has at most: 5 and 48 for each of 64 vectors.
 pub const MOST: usize = 3077;
@@ -208,17 +208,42 @@ fn whole(kind: Kind, n: u32) -> i32
     }
 }
 
-// One number, read and then ranged.
-fn read_one(bytes: &[u8], at: usize, kind: Kind) -> One
+// A number whose groups were read, ranged.
+fn ranged(kind: Kind, n: u32, next: usize) -> One
+    requires { ⌜ n < 2 ^ 28 ⌝ }
+    ensures { λ r. ⌜ r ≡ byNumber kind (Number.Value n next) ⌝ }
+{
+    let z = whole(kind, n);
+    if allowed(kind, z) {
+        return One::Taken(z, next);
+    }
+    One::Turned(refusal_of(kind, z))
+}
+
+// A bound for the kinds that come in long runs: a number read that is below it is folded and in range, so that no other test is left. It is
+// twice the range, and one more, and 0 for the other kinds.
+fn sure_below(kind: Kind) -> u32
+    ensures { λ r. ⌜ Sure kind r ⌝ }
+{
+    match kind {
+        Kind::RightPart => 4095,
+        Kind::ReceivedPart => 262143,
+        Kind::BitPrior => 2097151,
+        _ => 0,
+    }
+}
+
+// One number, read and then ranged. The bound is its kind's, so that the kind is looked at once for a run.
+fn read_one(bytes: &[u8], at: usize, kind: Kind, sure: u32) -> One
+    requires { ⌜ Sure kind sure ⌝ }
     ensures { λ r. ⌜ r ≡ oneAt kind (now (bytes .entry)) at ⌝ }
 {
     match wire::read_number(bytes, at) {
         Number::Value(n, next) => {
-            let z = whole(kind, n);
-            if allowed(kind, z) {
-                return One::Taken(z, next);
+            if n < sure {
+                return One::Taken(wire::unfold(n), next);
             }
-            One::Turned(refusal_of(kind, z))
+            ranged(kind, n, next)
         }
         Number::Short => One::Turned(Refusal::Ends),
         Number::Malformed => One::Turned(Refusal::Malformed),
@@ -237,10 +262,11 @@ fn read_run(
     requires { ⌜ from + count ≤ 3077 ⌝ }
     ensures { λ r. ⌜ got r (now (numbers .exit)) ≡ into from (numbersAt (replicate count kind) (now (bytes .entry)) at) (now (numbers .entry)) ⌝ }
 {
+    let sure = sure_below(kind);
     let mut place = at;
     let mut k = 0;
     while k < count {
-        match read_one(bytes, place, kind) {
+        match read_one(bytes, place, kind, sure) {
             One::Taken(z, next) => {
                 numbers[from + k] = z;
                 place = next;

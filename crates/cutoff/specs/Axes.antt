@@ -1,48 +1,29 @@
--- What the helpers of the test ask and say of the parts of one axis, n of them from a place of the array on.
-use Prim.Native.Nat.{ℕ, _+_, _*_, _/_, _%_, _^_, _≤_, _<_, max}
+-- What the helpers of the test ask and say of the parts of one axis.
+use Prim.Native.Nat.{ℕ, _+_, _*_, _^_, _≤_, _<_}
 use mathlib.Core.Path.{_≡_}
 use mathlib.Core.List.{List}
 use lib.Bits.{bitXor}
+use lib.IntN.{ℤ}
 use lib.ListN.{length, getD}
-use Rattle.model.specs.Block.{mostWidth}
-use Rattle.metric.specs.Parts.{span, realIn, imaginaryIn, AllSmall}
-use Rattle.cutoff.specs.Cut.{symbolReach}
-
--- What finding the least part asks
-pub record LeastAsked (axes : List ℕ) (from n : ℕ) : Type 0 where
-  pub place : from ≤ span
-  pub few : n ≤ span
-  pub small : AllSmall axes
-
--- None of the parts is below the least, and it is small too
-pub record LeastOf (axes : List ℕ) (from n least : ℕ) : Type 0 where
-  pub low : least < 2 ^ 62
-  pub least-le : (g : ℕ) → g < n → least ≤ getD axes (from + g) 0
-
--- What holding the parts against the entries asks: `other` is added to each, and `own` is the best label's
-pub record AnyAsked (entries axes : List ℕ) (from n other own : ℕ) : Type 0 where
-  pub place : from ≤ span
-  pub few : n ≤ span
-  pub small : AllSmall axes
-  pub low : other < 2 ^ 63
-  pub stream : length entries ≡ 2 * span
-  pub label : own < span
+use Rattle.metric.specs.Parts.{span}
+use Rattle.metric.specs.Tables.{tablePart, AxisAsked}
+use Rattle.cutoff.specs.Cut.{WidestLast}
 
 -- No part, with what is added, is below the widest limit of the bits in which its label differs from `own`
-abbrev pub NoneBelow : List ℕ → List ℕ → ℕ → ℕ → ℕ → ℕ → Type 0
-NoneBelow entries axes from n other own = (g : ℕ) → g < n → getD entries (from + bitXor g own) 0 ≤ other + getD axes (from + g) 0
+abbrev pub NoneOver : List ℕ → ℕ → ℕ → (ℕ → ℕ) → ℕ → ℕ → Type 0
+NoneOver entries from n part other own = (g : ℕ) → g < n → getD entries (from + bitXor g own) 0 ≤ other + part g
 
--- What doing so on both axes asks: `row` is added to the imaginary parts, `column` to the real ones
-pub record OwnAsked (q : ℕ) (axes entries : List ℕ) (own row column : ℕ) : Type 0 where
-  pub bits : q ≤ mostWidth
-  pub small : AllSmall axes
+-- What holding an axis's parts against its entries asks: they are made by the table, `other` is added to each, and `own` is the best label's
+pub record PartAsked (tables : List ℤ) (at : ℕ) (left : ℤ) (w other : ℕ) (entries : List ℕ) (from own : ℕ) : Type 0 where
+  pub axis : AxisAsked tables at left w
+  pub small : (g : ℕ) → g < 2 ^ w → tablePart tables at left g < 2 ^ 62
+  pub added : other < 2 ^ 63
+  pub place : from ≤ span
   pub stream : length entries ≡ 2 * span
-  pub symbol : own < 2 ^ q
-  pub low-row : row < 2 ^ 63
-  pub low-column : column < 2 ^ 63
+  pub label : own < 2 ^ w
 
--- No symbol's limits are wider than both sums of it
-abbrev pub NoneOpen : ℕ → List ℕ → List ℕ → ℕ → ℕ → ℕ → Type 0
-NoneOpen q axes entries own row column =
-    (s : ℕ) → s < 2 ^ q
-    → symbolReach q entries (bitXor s own) ≤ max (column + realIn axes (s / 2 ^ (q / 2))) (row + imaginaryIn axes (s % 2 ^ (q / 2)))
+-- and what doing so only where `low`, which no sum is below, is below the widest entry
+pub record ReachAsked (tables : List ℤ) (at : ℕ) (left : ℤ) (w other low : ℕ) (entries : List ℕ) (from own : ℕ) : Type 0 where
+  pub parts : PartAsked tables at left w other entries from own
+  pub least : (g : ℕ) → g < 2 ^ w → low ≤ other + tablePart tables at left g
+  pub widest : WidestLast entries from w

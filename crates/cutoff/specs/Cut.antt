@@ -1,32 +1,43 @@
 -- Would a child be cut? A child passes where its partial metric is at most B, or below the limit of a bit that is open: one that is open at
 -- all of its siblings, or one of its own symbol that is opposite to the best label's.
-use Prim.Native.Nat.{ℕ, _+_, _*_, _/_, _%_, _^_, _≤_, _<_, max}
+use Prim.Native.Nat.{ℕ, _+_, _-_, _*_, _/_, _%_, _^_, _≤_, _<_, max}
 use mathlib.Core.Path.{_≡_}
 use mathlib.Core.List.{List}
-use mathlib.Core.Logic.{_⊎_}
 use lib.Bits.{bitXor}
+use lib.IntN.{ℤ, natAbs}
 use lib.ListN.{length, getD}
-use Rattle.model.specs.Block.{mostWidth}
-use Rattle.metric.specs.Parts.{span, AllSmall}
+use Rattle.metric.specs.Parts.{span}
+use Rattle.metric.specs.Rows.{VectorAsked}
+use Rattle.metric.specs.Tables.{Tabled}
 
 -- A stream's entries: for each real label, then a span later for each imaginary one, the widest limit of the bits that are 1 in it. Of a
 -- symbol's bits that are 1 this is the widest
 unfoldable pub symbolReach : ℕ → List ℕ → ℕ → ℕ
 symbolReach q entries s = max (getD entries (s / 2 ^ (q / 2)) 0) (getD entries (span + s % 2 ^ (q / 2)) 0)
 
--- The child with symbol s and partial metric d would be cut: d is above B, not below the widest limits that all siblings share, and not
--- below `cap`, the widest of all, or not below the limits of its own bits that differ from those of the best label's symbol
-pub record CutAt (q best free chosen cap : ℕ) (entries : List ℕ) (own d s : ℕ) : Type 0 where
-  pub above-best : best < d
-  pub above-free : free ≤ d
-  pub above-chosen : chosen ≤ d
-  pub above-own : (cap ≤ d) ⊎ (symbolReach q entries (bitXor s own) ≤ d)
+-- The child with symbol s and partial metric d would be cut by what all siblings share, `base`, and by its own bits: d is not below `base`,
+-- and not below the limits of its bits that differ from those of the best label's symbol
+pub record Beyond (q base : ℕ) (entries : List ℕ) (own d s : ℕ) : Type 0 where
+  pub above-base : base ≤ d
+  pub above-own : symbolReach q entries (bitXor s own) ≤ d
 
--- What the test asks
-pub record ShutAsked (q partial : ℕ) (axes entries : List ℕ) (own : ℕ) : Type 0 where
-  pub bits : q ≤ mostWidth
-  pub low : partial < 2 ^ 62
-  pub both : length axes ≡ 2 * span
-  pub small : AllSmall axes
+-- Of the entries of an axis of w bits, which stand from a place on, the last, that of the label whose bits are all 1, is the widest
+abbrev pub WidestLast : List ℕ → ℕ → ℕ → Type 0
+WidestLast entries from w = (g : ℕ) → g < 2 ^ w → getD entries (from + g) 0 ≤ getD entries (from + (2 ^ w - 1)) 0
+
+-- and so it is on both axes
+pub record Widest (q : ℕ) (entries : List ℕ) : Type 0 where
+  pub real : WidestLast entries 0 (q - q / 2)
+  pub imaginary : WidestLast entries span (q / 2)
+
+-- What the test asks: `re` and `im` are what remains of y in the row
+pub record OpensAsked (m q row : ℕ) (re im : ℤ) (partial : ℕ) (numbers tables : List ℤ) (entries : List ℕ) (own : ℕ) : Type 0 where
+  pub vector : VectorAsked m q numbers
+  pub tabled : Tabled m q numbers tables
+  pub inside : row < m
+  pub low-re : natAbs re < 2 ^ 30
+  pub low-im : natAbs im < 2 ^ 30
+  pub low : partial < 2 ^ 61
   pub stream : length entries ≡ 2 * span
+  pub widest : Widest q entries
   pub symbol : own < 2 ^ q

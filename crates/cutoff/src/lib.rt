@@ -1,17 +1,23 @@
-// Would every child of a node be cut? Decided from the parts of the two axes, before the children's keys are filled in.
+// Would every child of a node be cut? Decided from what remains of y, before a part of an axis is stored or a child's key is filled in.
 use metric::AXES;
+use metric::Complex;
+use metric::Shape;
+use metric::TABLE;
 ghost use mathlib.Core.Path.{_≡_};
-ghost use mathlib.Core.Bool.{true, false};
-ghost use Prim.Native.Nat.{ℕ, _<_, _^_};
-ghost use Rattle.metric.specs.Parts.{childMetric, realIn, imaginaryIn};
-ghost use Rattle.cutoff.specs.Cut.{CutAt, ShutAsked};
-ghost use Rattle.cutoff.specs.Axes.{LeastAsked, LeastOf, AnyAsked, NoneBelow, OwnAsked, NoneOpen};
+ghost use mathlib.Core.Bool.{false};
+ghost use Prim.Native.Nat.{ℕ, suc, _*_, _-_, _<_, _^_};
+ghost use Rattle.model.specs.Constellation.{bitsOf};
+ghost use Rattle.constellation.specs.Points.{complexOf};
+ghost use Rattle.metric.specs.Rows.{rowAt, remainderOf, childOf};
+ghost use Rattle.metric.specs.Tables.{tablePart};
+ghost use Rattle.cutoff.specs.Cut.{Beyond, OpensAsked};
+ghost use Rattle.cutoff.specs.Axes.{NoneOver, PartAsked, ReachAsked};
 
 // How many labels the widest axis has: the place of the imaginary axis's parts, and of its entries.
 const SPAN: usize = AXES / 2;
 
-// What a child's partial metric is held against: B, the widest limit of the bits that are not chosen yet, that of the chosen bits that are
-// opposite to the best label's, and `cap`, the widest of all bits but the chosen ones.
+// What a node's children are held against: B, the widest limit of the bits that are not chosen, that of the chosen bits that are opposite to
+// the best label's, and `cap`, the widest of the children's streams and those before.
 pub struct Bounds {
     pub best: u64,
     pub free: u64,
@@ -19,53 +25,26 @@ pub struct Bounds {
     pub cap: u64,
 }
 
-// The least of n parts from a place on.
-fn least_among(axes: &[u64; AXES], from: usize, n: usize) -> u64
-    requires { ⌜ LeastAsked (now axes) from n ⌝ }
-    ensures { λ r. ⌜ LeastOf (now (axes .entry)) from n r ⌝ }
-{
-    let mut least = axes[from];
-    let mut g = 1;
-    while g < n {
-        let part = axes[from + g];
-        if part < least {
-            least = part;
-        }
-        g += 1;
-    }
-    least
-}
-
-// The same; an axis of 64-QAM has eight labels, and one of 256-QAM sixteen, which the compiler is told here.
-fn least_part(axes: &[u64; AXES], from: usize, n: usize) -> u64
-    requires { ⌜ LeastAsked (now axes) from n ⌝ }
-    ensures { λ r. ⌜ LeastOf (now (axes .entry)) from n r ⌝ }
-{
-    if n == 8 {
-        return least_among(axes, from, 8);
-    }
-    if n == 16 {
-        return least_among(axes, from, 16);
-    }
-    least_among(axes, from, n)
-}
-
-// Is one of n parts from a place on, with what the other axis and the parent give at least (`other`), below the widest limit of the bits
-// in which its label differs from `own`, the best label's?
-fn any_among(
-    entries: &[u64],
-    axes: &[u64; AXES],
-    from: usize,
-    n: usize,
+// Is one of the labels of an axis of w bits, with `other` added to its part, below the widest limit of the bits in which it differs from
+// `own`? The parts are made as they are asked for.
+fn any_part(
+    tables: &[i32; TABLE],
+    at: usize,
+    left: i64,
+    w: usize,
     other: u64,
+    entries: &[u64],
+    from: usize,
     own: usize,
 ) -> bool
-    requires { ⌜ AnyAsked (now entries) (now axes) from n other own ⌝ }
-    ensures { λ r. ⌜ (r ≡ false → NoneBelow (now (entries .entry)) (now (axes .entry)) from n other own) ⌝ }
+    requires { ⌜ PartAsked (now tables) at left w other (now entries) from own ⌝ }
+    ensures { λ r. ⌜ (r ≡ false → NoneOver (now (entries .entry)) from (2 ^ w) (tablePart (now (tables .entry)) at left) other own) ⌝ }
 {
+    let n: usize = 1 << w;
     let mut g = 0;
     while g < n {
-        if other + axes[from + g] < entries[from + (g ^ own)] {
+        let part = metric::axis_part(left, tables[at + g], tables[at + SPAN + g]);
+        if other + part < entries[from + (g ^ own)] {
             return true;
         }
         g += 1;
@@ -73,76 +52,98 @@ fn any_among(
     false
 }
 
-// The same; the compiler is told of eight labels and of sixteen here too.
-fn any_below(
-    entries: &[u64],
-    axes: &[u64; AXES],
-    from: usize,
-    n: usize,
+// The same; an axis of 64-QAM has three bits, one of 16-QAM two and one of 256-QAM four, which the compiler is told here.
+fn any_part_of(
+    tables: &[i32; TABLE],
+    at: usize,
+    left: i64,
+    w: usize,
     other: u64,
-    own: usize,
-) -> bool
-    requires { ⌜ AnyAsked (now entries) (now axes) from n other own ⌝ }
-    ensures { λ r. ⌜ (r ≡ false → NoneBelow (now (entries .entry)) (now (axes .entry)) from n other own) ⌝ }
-{
-    if n == 8 {
-        return any_among(entries, axes, from, 8, other, own);
-    }
-    if n == 16 {
-        return any_among(entries, axes, from, 16, other, own);
-    }
-    any_among(entries, axes, from, n, other, own)
-}
-
-// May a child be open by a bit of its own symbol? `row` is the parent's partial metric with the least real part, for the imaginary labels,
-// and `column` that with the least imaginary part, for the real ones.
-fn own_opens(
-    q: usize,
-    axes: &[u64; AXES],
     entries: &[u64],
+    from: usize,
     own: usize,
-    row: u64,
-    column: u64,
 ) -> bool
-    requires { ⌜ OwnAsked q (now axes) (now entries) own row column ⌝ }
-    ensures { λ r. ⌜ (r ≡ false → NoneOpen q (now (axes .entry)) (now (entries .entry)) own row column) ⌝ }
+    requires { ⌜ PartAsked (now tables) at left w other (now entries) from own ⌝ }
+    ensures { λ r. ⌜ (r ≡ false → NoneOver (now (entries .entry)) from (2 ^ w) (tablePart (now (tables .entry)) at left) other own) ⌝ }
 {
-    let columns: usize = 1 << (q / 2);
-    if any_below(entries, axes, 0, 1 << (q - q / 2), column, own >> (q / 2)) {
-        return true;
+    if w == 3 {
+        return any_part(tables, at, left, 3, other, entries, from, own);
     }
-    any_below(entries, axes, SPAN, columns, row, own & (columns - 1))
+    if w == 2 {
+        return any_part(tables, at, left, 2, other, entries, from, own);
+    }
+    if w == 4 {
+        return any_part(tables, at, left, 4, other, entries, from, own);
+    }
+    any_part(tables, at, left, w, other, entries, from, own)
 }
 
-// Would every child be cut? Where this is true all would. `entries` are the limits of the children's own stream, and `own` is the best
-// label's symbol there.
-pub fn shuts(
-    q: usize,
+// The same. No sum is below `low`, and no entry is wider than that of the label whose bits are all 1: where that is not above `low` no part
+// has to be made.
+fn axis_opens(
+    tables: &[i32; TABLE],
+    at: usize,
+    left: i64,
+    w: usize,
+    other: u64,
+    low: u64,
+    entries: &[u64],
+    from: usize,
+    own: usize,
+) -> bool
+    requires { ⌜ ReachAsked (now tables) at left w other low (now entries) from own ⌝ }
+    ensures { λ r. ⌜ (r ≡ false → NoneOver (now (entries .entry)) from (2 ^ w) (tablePart (now (tables .entry)) at left) other own) ⌝ }
+{
+    if entries[from + ((1 << w) - 1)] <= low {
+        return false;
+    }
+    any_part_of(tables, at, left, w, other, entries, from, own)
+}
+
+// May a child of a node pass? Where this is false every child would be cut: its partial metric is not below `base`, what is held against
+// all siblings, nor below a limit of its own bits that differ from `own`, the best label's symbol there. `left` is what remains of y in the
+// row, and `entries` are the limits of its stream. No child is below the parent's partial metric with the squared distance to the nearest
+// amplitude of either axis, nor below a label's part with that distance on the other axis.
+pub fn opens(
+    shape: Shape,
+    row: usize,
+    left: Complex,
     partial: u64,
-    axes: &[u64; AXES],
-    bounds: Bounds,
+    base: u64,
+    numbers: &[i32],
+    tables: &[i32; TABLE],
     entries: &[u64],
     own: usize,
 ) -> bool
-    requires { ⌜ ShutAsked q partial (now axes) (now entries) own ⌝ }
-    ensures { λ r. ⌜ (r ≡ true → (s : ℕ) → s < 2 ^ q
-        → CutAt q (bounds .best) (bounds .free) (bounds .chosen) (bounds .cap) (now (entries .entry)) own
-        (childMetric q partial (realIn (now (axes .entry))) (imaginaryIn (now (axes .entry))) s) s) ⌝ }
+    requires { ⌜ OpensAsked (shape .streams) (shape .width) row (left .re) (left .im) partial (now numbers) (now tables) (now entries)
+        own ⌝ }
+    ensures { λ r. ⌜ (r ≡ false → (node : ℕ) → complexOf (left .re) (left .im)
+        ≡ remainderOf (shape .width) (rowAt (shape .streams) (shape .width) (now (numbers .entry)) row)
+        (bitsOf ((shape .streams - suc row) * shape .width) node)
+        → (s : ℕ) → s < 2 ^ shape .width
+        → Beyond (shape .width) base (now (entries .entry)) own
+        (childOf (shape .streams) (shape .width) (now (numbers .entry)) row node partial s) s) ⌝ }
 {
-    let row = least_part(axes, 0, 1 << (q - q / 2));
-    let column = least_part(axes, SPAN, 1 << (q / 2));
-    let low = partial + (row + column);
-    if low <= bounds.best {
-        return false;
-    }
-    if low < bounds.free {
-        return false;
-    }
-    if low < bounds.chosen {
-        return false;
-    }
-    if bounds.cap <= low {
+    let q = shape.width;
+    let w = q - q / 2;
+    let v = q / 2;
+    let diagonal = metric::element(numbers, row * (2 * shape.streams - row)) as u64;
+    let re = metric::nearest(left.re, diagonal, w);
+    let im = metric::nearest(left.im, diagonal, v);
+    let near_re = re * re;
+    let near_im = im * im;
+    let sum_re = partial + near_re;
+    let sum_im = partial + near_im;
+    let low = sum_re + near_im;
+    if low < base {
         return true;
     }
-    !own_opens(q, axes, entries, own, partial + row, partial + column)
+    let at = row * (4 * SPAN);
+    let own_re = own >> v;
+    let own_im = own & ((1 << v) - 1);
+    if axis_opens(tables, at, left.re, w, sum_im, low, entries, 0, own_re) {
+        return true;
+    }
+    let next = at + 2 * SPAN;
+    axis_opens(tables, next, left.im, v, sum_re, low, entries, SPAN, own_im)
 }

@@ -1,7 +1,6 @@
 -- The parts of both axes at a node, filled in by the table: a label's place holds its part, and the sum of the parts is the increment.
 use Prim.Native.Nat.{ℕ, suc, _+_, _-_, _*_, _/_, _%_, _^_, _≤_, _<_}
 use mathlib.Core.Path.{_≡_, sym, _∙_, ap, ap₂, subst}
-use mathlib.Core.Bool.{false, false≢true}
 use mathlib.Core.List.{List, _++_}
 use native.Mathlib.Nat.{le-of-lt, zero-add, mod-lt, mul-le-mul}
 use native.Mathlib.Omega.{arith}
@@ -14,8 +13,8 @@ use Rattle.model.specs.Block.{Every, Within, mostWidth, mostEntry, mostPrior}
 use Rattle.model.proofs.Numbers.{first-half, length-bitsOf}
 use Rattle.model.proofs.Bounds.{prior-cost-bound}
 use Rattle.metric.specs.Parts.{axisWidth, span, part, axisPart, realIn, imaginaryIn, childMetric, filledFrom, AllSmall}
-use Rattle.metric.specs.Parts.{nearestOf, floorOf}
-use Rattle.metric.specs.Rows.{rowStart, rowAt, childOf, VectorAsked, Measured, MeasuredFrom}
+use Rattle.metric.specs.Parts.{nearestOf}
+use Rattle.metric.specs.Rows.{rowStart, rowAt, childOf, VectorAsked, Measured}
 use Rattle.metric.specs.Tables.{Axis, axisPlace, axisBits, axisPrior, labelProduct, labelCost, Tabled, tablePart, AxisAsked}
 use Rattle.metric.specs.Tables.Axis.{real, imaginary}
 use Rattle.metric.proofs.Filled.{from-length, from-before, from-at, from-all}
@@ -101,10 +100,16 @@ module _ {m q : ℕ} {numbers : List ℤ} (asked : VectorAsked m q numbers) (lev
         ap₂ (λ (p c : ℤ). natAbs (left -ℤ p) * natAbs (left -ℤ p) + natAbs c)
         (tabled .axes level inside x .product g h) (tabled .axes level inside x .cost g h)
 
-    part-small : (g : ℕ) → g < 2 ^ axisBits q x → tablePart tables (axisPlace level x) left g < 2 ^ 62
+    pub part-small : (g : ℕ) → g < 2 ^ axisBits q x → tablePart tables (axisPlace level x) left g < 2 ^ 62
     part-small g h =
         rw (part-by g h)
         (axis-small left _ _ (axisBits q x) g low (diagonal-within asked level inside) few (axis-priors asked level inside x))
+
+    -- and at least the square of the nearest distance
+    pub part-near : (g : ℕ) → g < 2 ^ axisBits q x
+        → let n = nearestOf (natAbs (getD numbers (rowStart m level) (pos 0))) (axisBits q x) (natAbs left) in
+        n * n ≤ tablePart tables (axisPlace level x) left g
+    part-near g h = rw (part-by g h) (axis-near left _ _ (axisBits q x) g)
 
     -- What filling an axis in makes of the array: its entries are small, and the axis's places hold its parts
     module _ (axes : List ℕ) (size : length axes ≡ 2 * span) where
@@ -148,24 +153,18 @@ module _ {m q : ℕ} {numbers : List ℤ} (asked : VectorAsked m q numbers) (lev
             let e : q ≡ w + q / 2 = omega arith in
             ap (part numbers (axisPrior m q level real)) e ∙ part-append numbers (axisPrior m q level real) w (q / 2)
 
-    -- Every child is at least as far as the nearest point of the constellation
-    pub far-by : (diagonal d bound : ℕ) → diagonal ≡ natAbs (getD numbers (rowStart m level) (pos 0)) → bound ≤ d + floorOf q diagonal left
-        → (axes : List ℕ) → MeasuredFrom m q numbers level node d bound axes false
-    unfolding floorOf childMetric
-    far-by diagonal d bound e h axes = record {
-      far =
-          λ _ s _.
-          omega (
-            arith,
-            rw e at h,
-            child-by d s,
-            axis-near (left .re) (getD numbers (rowStart m level) (pos 0)) (part numbers (axisPrior m q level real) (q - q / 2)) (q - q / 2)
-                (s / 2 ^ (q / 2)),
-            axis-near (left .im) (getD numbers (rowStart m level) (pos 0)) (part numbers (axisPrior m q level imaginary) (q / 2)) (q / 2)
-                (s % 2 ^ (q / 2)),
-          );
-      parts = λ e. absurd (false≢true e);
-    }
+    module _ {tables : List ℤ} (tabled : Tabled m q numbers tables)
+        (low-re : natAbs (left .re) < 2 ^ 30) (low-im : natAbs (left .im) < 2 ^ 30) where
+      -- and by the table
+      pub child-parts : (d s : ℕ) → s < 2 ^ q
+          → childOf m q numbers level node d s
+          ≡ childMetric q d (tablePart tables (axisPlace level real) (left .re)) (tablePart tables (axisPlace level imaginary) (left .im)) s
+      unfolding childMetric
+      child-parts d s h =
+          sym
+          (ap₂ (λ (a b : ℕ). d + (a + b)) (part-by tabled real (left .re) low-re (s / 2 ^ (q / 2)) (first-half q s h))
+          (part-by tabled imaginary (left .im) low-im (s % 2 ^ (q / 2)) (mod-lt s (pow-pos (q / 2))))
+          ∙ child-by d s)
 
     -- An array with both axes filled in by the table has the node's parts
     module _ {tables : List ℤ} (tabled : Tabled m q numbers tables)

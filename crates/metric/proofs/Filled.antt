@@ -95,3 +95,13 @@ module _ {A : Type 0} where
   from-join at f g (suc k) l same =
       rw add-suc
       (ap₂ (λ (x : List A) (v : A). set x (at + k) v) (from-join at f g k l (λ i h. same i (omega arith))) (same k (omega arith)))
+
+  -- The places behind ones that are filled from a place on: together they are more of these
+  pub from-behind : (at n : ℕ) (f h : ℕ → A) (k : ℕ) (l : List A) → ((i : ℕ) → i < k → h i ≡ f (n + i))
+      → filledFrom (at + n) h k (filledFrom at f n l) ≡ filledFrom at f (n + k) l
+  unfolding filledFrom
+  from-behind at n f h zero l same = let e : n ≡ n + 0 = omega arith in ap (λ (m : ℕ). filledFrom at f m l) e
+  from-behind at n f h (suc k) l same =
+      let e : at + n + k ≡ at + (n + k) = omega arith in
+      rw (add-suc, e)
+      (ap₂ (λ (x : List A) (v : A). set x (at + (n + k)) v) (from-behind at n f h k l (λ i j. same i (omega arith))) (same k (omega arith)))

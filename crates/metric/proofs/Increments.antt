@@ -24,7 +24,7 @@ sub-add a b c = ap (λ (z : ℤ). a +ℤ z) (negℤ-+ℤ b c) ∙ sym (+ℤ-asso
 pub less-sum : (a b c : Complex) → a ⊖ (b ⊕ c) ≡ a ⊖ b ⊖ c
 less-sum a b c = ap₂ complexOf (sub-add (a .re) (b .re) (c .re)) (sub-add (a .im) (b .im) (c .im))
 
-less-other : (a b c : Complex) → a ⊖ (b ⊕ c) ≡ a ⊖ c ⊖ b
+pub less-other : (a b c : Complex) → a ⊖ (b ⊕ c) ≡ a ⊖ c ⊖ b
 less-other a b c =
     ap₂ complexOf
     (ap (λ (z : ℤ). a .re -ℤ z) (+ℤ-comm (b .re) (c .re)) ∙ sub-add (a .re) (c .re) (b .re))

@@ -6,6 +6,7 @@ pub mod Rows
 pub mod Remainders
 pub mod Products
 pub mod Grid
+pub mod Pass
 pub mod Tables
 pub mod Folds
 pub mod Bridge

@@ -6,7 +6,7 @@ use mathlib.Core.List.{List, map}
 use lib.Dec.{eqb}
 use lib.IntN.{ℤ, pos, natAbs, _-ℤ_, _*ℤ_}
 use lib.ListN.{getD, set}
-use Rattle.model.specs.Constellation.{Complex, bitsOf, amplitude}
+use Rattle.model.specs.Constellation.{bitsOf, amplitude}
 use Rattle.model.specs.Metric.{priorCost}
 use Rattle.model.specs.Soft.{upFrom}
 use Rattle.model.specs.Block.{mostWidth}
@@ -50,13 +50,6 @@ unfoldable pub nearestOf : ℕ → ℕ → ℕ → ℕ
 nearestOf diagonal zero d = d
 nearestOf diagonal (suc w) d = nearestOf diagonal w (apart d (diagonal * 2 ^ w))
 
--- The squared distance from what remains to the nearest point of the constellation, times the diagonal
-unfoldable pub floorOf : ℕ → ℕ → Complex → ℕ
-floorOf q diagonal left =
-    let re = nearestOf diagonal (q - q / 2) (natAbs (left .re)) in
-    let im = nearestOf diagonal (q / 2) (natAbs (left .im)) in
-    re * re + im * im
-
 -- A child's partial metric from its parent's and the parts of its two axis labels
 unfoldable pub childMetric : ℕ → ℕ → (ℕ → ℕ) → (ℕ → ℕ) → ℕ → ℕ
 childMetric q partial re im s = partial + (re (s / 2 ^ (q / 2)) + im (s % 2 ^ (q / 2)))
@@ -76,6 +69,11 @@ rowMetric base axes b = base + imaginaryIn axes b
 unfoldable pub filled : {A : Type 0} → (ℕ → A) → ℕ → List A → List A
 filled f zero l = l
 filled f (suc n) l = set (filled f n l) n (f n)
+
+-- Document 02, Point 3, "in one pass over them": the places of a node's children after the first k of these are measured. `partial` is the
+-- node's partial metric, and `axes` has the parts of both axes.
+unfoldable pub measuredTo : ℕ → ℕ → List ℕ → ℕ → List ℕ → List ℕ
+measuredTo q partial axes k keys = filled (childMetric q partial (realIn axes) (imaginaryIn axes)) k keys
 
 -- A list with n places from a place on filled by a rule
 unfoldable pub filledFrom : {A : Type 0} → ℕ → (ℕ → A) → ℕ → List A → List A

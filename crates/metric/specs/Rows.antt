@@ -1,7 +1,6 @@
 -- A row of a vector read off its whole numbers by places, and what remains of y in it.
 use Prim.Native.Nat.{ℕ, suc, _+_, _-_, _*_, _≤_, _<_, _^_}
 use mathlib.Core.Path.{_≡_}
-use mathlib.Core.Bool.{Bool, true, false}
 use mathlib.Core.List.{List, map, _++_}
 use lib.IntN.{ℤ, pos, natAbs}
 use lib.ListN.{length, getD}
@@ -35,9 +34,13 @@ rowAt m q numbers i = record {
 unfoldable pub remainderOf : ℕ → Row → Bits → Complex
 remainderOf q r bits = r .received ⊖ dot q (r .right) bits
 
--- The partial metric of the child with symbol s, below a node of partial metric d at the stream before row i's
+-- The bits of the child with symbol s below a node, from row i's stream to the last
+abbrev pub childBits : ℕ → ℕ → ℕ → ℕ → ℕ → Bits
+childBits m q i node s = bitsOf q s ++ bitsOf ((m - suc i) * q) node
+
+-- The partial metric of that child, below a node of partial metric d
 unfoldable pub childOf : ℕ → ℕ → List ℤ → ℕ → ℕ → ℕ → ℕ → ℕ
-childOf m q numbers i node d s = d + increment q (rowAt m q numbers i) (bitsOf q s ++ bitsOf ((m - suc i) * q) node)
+childOf m q numbers i node d s = d + increment q (rowAt m q numbers i) (childBits m q i node s)
 
 -- What measuring asks of a vector's numbers: the sizes and ranges of document 01, "The record"
 pub record VectorAsked (m q : ℕ) (numbers : List ℤ) : Type 0 where
@@ -57,11 +60,6 @@ pub record Measured (m q : ℕ) (numbers : List ℤ) (i node : ℕ) (axes : List
   pub size : length axes ≡ 2 * span
   pub small : AllSmall axes
   pub child : (d s : ℕ) → s < 2 ^ q → childOf m q numbers i node d s ≡ childMetric q d (realIn axes) (imaginaryIn axes) s
-
--- What is known of the children's partial metrics below a node of partial metric d: all are `bound` or more, or the parts are there
-pub record MeasuredFrom (m q : ℕ) (numbers : List ℤ) (i node d bound : ℕ) (axes : List ℕ) (r : Bool) : Type 0 where
-  pub far : r ≡ false → (s : ℕ) → s < 2 ^ q → bound ≤ childOf m q numbers i node d s
-  pub parts : r ≡ true → Measured m q numbers i node axes
 
 -- The parts of two complex numbers, an entry of R and a point, that are multiplied
 pub record Factors (a b x y : ℤ) : Type 0 where

@@ -3,7 +3,7 @@
 // the vector alone is made once for the vector, in a lent table.
 use constellation::PLACES;
 ghost use mathlib.Core.Path.{_≡_};
-ghost use Prim.Native.Nat.{suc, _+_, _*_, _-_, _/_, _%_, _<_, _≤_, _^_};
+ghost use Prim.Native.Nat.{ℕ, suc, _+_, _*_, _-_, _/_, _%_, _<_, _≤_, _^_};
 ghost use lib.IntN.{pos, natAbs, _+ℤ_, _-ℤ_, _*ℤ_};
 ghost use lib.ListN.{length, getD};
 ghost use Rattle.model.specs.Constellation.{bitsOf, _⊗_};
@@ -11,9 +11,9 @@ ghost use Rattle.model.specs.Metric.{bitCost};
 ghost use Rattle.model.specs.Block.{mostWidth, mostEntry};
 ghost use Rattle.constellation.specs.Points.{complexOf, places, pointIn, Points};
 ghost use Rattle.block.specs.Contents.{complexAt};
-ghost use Rattle.metric.specs.Parts.{axisWidth, span, part, bitOf, axisCost, realIn, imaginaryIn, childMetric, rowMetric, apart, nearestOf};
-ghost use Rattle.metric.specs.Parts.{floorOf, filled, filledFrom, AllSmall};
-ghost use Rattle.metric.specs.Rows.{rowAt, remainderOf, VectorAsked, MeasuredFrom, Factors, TermAsked};
+ghost use Rattle.metric.specs.Parts.{axisWidth, span, part, bitOf, axisCost, rowMetric, measuredTo, apart, nearestOf};
+ghost use Rattle.metric.specs.Parts.{filledFrom, AllSmall};
+ghost use Rattle.metric.specs.Rows.{rowAt, remainderOf, VectorAsked, Measured, Factors, TermAsked};
 ghost use Rattle.metric.specs.Tables.{tableSize, labelProduct, labelCost, entriesIn, tablePart, Tabled};
 ghost use Rattle.metric.specs.Tables.{AxisAsked, AmplitudesAsked, PriorsAsked, EntriesAsked};
 
@@ -30,13 +30,6 @@ pub const AXES: usize = 2 * SPAN;
 pub struct Shape {
     pub streams: usize,
     pub width: usize,
-}
-
-// A node: how many streams are not chosen yet, the bits that are, as a number, and its partial metric.
-pub struct Node {
-    pub level: usize,
-    pub bits: u32,
-    pub partial: u64,
 }
 
 // Bit i, counted from the first, of a label of n bits.
@@ -90,7 +83,7 @@ fn amplitude(points: &[i8; PLACES], i: usize) -> i64
 }
 
 // The products of an axis's labels of w bits, in the table from a place on: the amplitudes stand in the points from `first` on, `step` apart.
-fn fill_products(
+fn fill_label_products(
     points: &[i8; PLACES],
     first: usize,
     step: usize,
@@ -111,17 +104,71 @@ fn fill_products(
     }
 }
 
-// Their prior costs, by the priors that stand in the numbers from a place on.
+// The same; an axis of 64-QAM has three bits and one of 16-QAM two, which the compiler is told here.
+fn fill_products(
+    points: &[i8; PLACES],
+    first: usize,
+    step: usize,
+    diagonal: i64,
+    w: usize,
+    at: usize,
+    tables: &mut [i32; TABLE],
+)
+    requires { ⌜ AmplitudesAsked (now points) first step w × (natAbs diagonal ≤ mostEntry) × (at + span ≤ tableSize) ⌝ }
+    ensures { λ _. ⌜ now (tables .exit) ≡ filledFrom at (labelProduct diagonal w) (2 ^ w) (now (tables .entry)) ⌝ }
+{
+    if w == 3 {
+        return fill_label_products(points, first, step, diagonal, 3, at, tables);
+    }
+    if w == 2 {
+        return fill_label_products(points, first, step, diagonal, 2, at, tables);
+    }
+    fill_label_products(points, first, step, diagonal, w, at, tables)
+}
+
+// An axis's n costs are doubled: behind them stand those of the same labels with one bit more that is 1, whose prior, with its sign, is what a
+// 1 costs more than a 0.
+fn double_costs(tables: &mut [i32], at: usize, n: usize, prior: i32)
+    requires { ⌜ (at + 2 * n ≤ length (now tables))
+        × ((g : ℕ) → g < n → natAbs (getD (now tables) (at + g) (pos 0) +ℤ prior) < 2 ^ 31) ⌝ }
+    ensures { λ _. ⌜ now (tables .exit)
+        ≡ filledFrom (at + n) (λ g. getD (now (tables .entry)) (at + g) (pos 0) +ℤ prior) n (now (tables .entry)) ⌝ }
+{
+    let mut g = 0;
+    while g < n {
+        let cost = tables[at + g] + prior;
+        tables[at + n + g] = cost;
+        g += 1;
+    }
+}
+
+// Their prior costs, by the priors that stand in the numbers from a place on: that of the label whose bits are all 0, doubled for each bit
+// from the last one on.
+fn fill_label_costs(numbers: &[i32], from: usize, w: usize, at: usize, tables: &mut [i32; TABLE])
+    requires { ⌜ PriorsAsked (now numbers) from w × (at + span ≤ tableSize) ⌝ }
+    ensures { λ _. ⌜ now (tables .exit) ≡ filledFrom at (labelCost (part (now (numbers .entry)) from w) w) (2 ^ w) (now (tables .entry)) ⌝ }
+{
+    tables[at] = axis_cost(numbers, from, w, 0) as i32;
+    let mut b = 0;
+    while b < w {
+        let prior = numbers[from + (w - 1 - b)];
+        double_costs(tables, at, 1 << b, prior);
+        b += 1;
+    }
+}
+
+// The same, with the three bits or two made known to the compiler.
 fn fill_costs(numbers: &[i32], from: usize, w: usize, at: usize, tables: &mut [i32; TABLE])
     requires { ⌜ PriorsAsked (now numbers) from w × (at + span ≤ tableSize) ⌝ }
     ensures { λ _. ⌜ now (tables .exit) ≡ filledFrom at (labelCost (part (now (numbers .entry)) from w) w) (2 ^ w) (now (tables .entry)) ⌝ }
 {
-    let n: usize = 1 << w;
-    let mut g = 0;
-    while g < n {
-        tables[at + g] = axis_cost(numbers, from, w, g as u32) as i32;
-        g += 1;
+    if w == 3 {
+        return fill_label_costs(numbers, from, 3, at, tables);
     }
+    if w == 2 {
+        return fill_label_costs(numbers, from, 2, at, tables);
+    }
+    fill_label_costs(numbers, from, w, at, tables)
 }
 
 // Where the amplitudes of an axis stand in the points: the place of the first, how far they are apart, and the bits of their labels.
@@ -184,7 +231,7 @@ pub fn prepare(shape: Shape, points: &[i8; PLACES], numbers: &[i32], tables: &mu
 }
 
 // What an axis label adds to the increment, by its two entries of the table.
-fn axis_part(left: i64, product: i32, cost: i32) -> u64
+pub fn axis_part(left: i64, product: i32, cost: i32) -> u64
     requires { ⌜ (natAbs left < 2 ^ 30) × (natAbs product < 2 ^ 30) × (cost ≡ pos (natAbs cost)) ⌝ }
     ensures { λ r. ⌜ r ≡ natAbs (left -ℤ product) * natAbs (left -ℤ product) + natAbs cost ⌝ }
 {
@@ -241,35 +288,36 @@ fn fill_columns(base: u64, axes: &[u64; AXES], n: usize, at: usize, keys: &mut [
     }
 }
 
-// The same, with the eight columns of 64-QAM made known to the compiler.
-fn fill_row(base: u64, axes: &[u64; AXES], n: usize, at: usize, keys: &mut [u64])
-    requires { ⌜ (base < 2 ^ 63) × AllSmall (now axes) × (n ≤ span) × (at + n ≤ length (now keys)) ⌝ }
-    ensures { λ _. ⌜ now (keys .exit) ≡ filledFrom at (rowMetric base (now (axes .entry))) n (now (keys .entry)) ⌝ }
-{
-    if n == 8 {
-        return fill_columns(base, axes, 8, at, keys);
-    }
-    fill_columns(base, axes, n, at, keys)
-}
-
-// The children's partial metrics, row by row of the constellation, each place written once with its whole increment.
-pub fn fill_children(q: usize, partial: u64, axes: &[u64; AXES], keys: &mut [u64])
-    requires { ⌜ (q ≤ mostWidth) × (partial < 2 ^ 62) × (length (now axes) ≡ 2 * span) × AllSmall (now axes)
-        × (2 ^ q ≤ length (now keys)) ⌝ }
-    ensures { λ _. ⌜ now (keys .exit)
-        ≡ filled (childMetric q partial (realIn (now (axes .entry))) (imaginaryIn (now (axes .entry)))) (2 ^ q) (now (keys .entry)) ⌝ }
+// The children's partial metrics in one pass, row by row of the constellation: each place is written once, with its whole increment.
+fn fill_rows(q: usize, partial: u64, axes: &[u64; AXES], keys: &mut [u64])
+    requires { ⌜ (q ≤ mostWidth) × (partial < 2 ^ 62) × AllSmall (now axes) × (2 ^ q ≤ length (now keys)) ⌝ }
+    ensures { λ _. ⌜ now (keys .exit) ≡ measuredTo q partial (now (axes .entry)) (2 ^ q) (now (keys .entry)) ⌝ }
 {
     let rows: usize = 1 << (q - q / 2);
     let n: usize = 1 << (q / 2);
     let mut a = 0;
     while a < rows {
-        fill_row(partial + axes[a], axes, n, a * n, keys);
+        fill_columns(partial + axes[a], axes, n, a * n, keys);
         a += 1;
     }
 }
 
+// The same, with the rows and columns of 64-QAM and 16-QAM made known to the compiler.
+pub fn fill_children(q: usize, partial: u64, axes: &[u64; AXES], keys: &mut [u64])
+    requires { ⌜ (q ≤ mostWidth) × (partial < 2 ^ 62) × AllSmall (now axes) × (2 ^ q ≤ length (now keys)) ⌝ }
+    ensures { λ _. ⌜ now (keys .exit) ≡ measuredTo q partial (now (axes .entry)) (2 ^ q) (now (keys .entry)) ⌝ }
+{
+    if q == 6 {
+        return fill_rows(6, partial, axes, keys);
+    }
+    if q == 4 {
+        return fill_rows(4, partial, axes, keys);
+    }
+    fill_rows(q, partial, axes, keys)
+}
+
 // One of a vector's numbers.
-fn element(numbers: &[i32], i: usize) -> i64
+pub fn element(numbers: &[i32], i: usize) -> i64
     requires { ⌜ i < length (now numbers) ⌝ }
     ensures { λ r. ⌜ r ≡ getD (now (numbers .entry)) i (pos 0) ⌝ }
 {
@@ -301,13 +349,13 @@ fn product_im(a: i64, b: i64, x: i64, y: i64) -> i64
 }
 
 // A complex number whose parts are whole numbers.
-struct Complex {
-    re: i64,
-    im: i64,
+pub struct Complex {
+    pub re: i64,
+    pub im: i64,
 }
 
 // An entry of R, at its place in the numbers, times the point of a symbol.
-fn term(points: &[i8; PLACES], numbers: &[i32], place: usize, symbol: usize) -> Complex
+pub fn term(points: &[i8; PLACES], numbers: &[i32], place: usize, symbol: usize) -> Complex
     requires { ⌜ TermAsked (now points) (now numbers) place symbol ⌝ }
     ensures { λ r. ⌜ complexOf (r .re) (r .im) ≡ complexAt (now (numbers .entry)) place ⊗ pointIn (now (points .entry)) symbol ⌝ }
 {
@@ -321,7 +369,7 @@ fn term(points: &[i8; PLACES], numbers: &[i32], place: usize, symbol: usize) -> 
 }
 
 // a less b.
-fn less(a: i64, b: i64) -> i64
+pub fn less(a: i64, b: i64) -> i64
     requires { ⌜ (natAbs a < 2 ^ 30) × (natAbs b < 2 ^ 30) ⌝ }
     ensures { λ r. ⌜ r ≡ a -ℤ b ⌝ }
 {
@@ -329,7 +377,7 @@ fn less(a: i64, b: i64) -> i64
 }
 
 // What remains of y in a row after the entries right of the diagonal, times the points of the node's symbols.
-fn remainder(
+pub fn remainder(
     points: &[i8; PLACES],
     numbers: &[i32],
     m: usize,
@@ -381,7 +429,7 @@ fn folded(e: i64, diagonal: u64, w: usize) -> u64
 }
 
 // The same, with the three bits of an axis of 64-QAM made known to the compiler.
-fn nearest(e: i64, diagonal: u64, w: usize) -> u64
+pub fn nearest(e: i64, diagonal: u64, w: usize) -> u64
     requires { ⌜ (natAbs e < 2 ^ 30) × (diagonal ≤ mostEntry) × (w ≤ axisWidth) ⌝ }
     ensures { λ r. ⌜ (r ≡ nearestOf diagonal w (natAbs e)) × (r < 2 ^ 30) ⌝ }
 {
@@ -391,43 +439,26 @@ fn nearest(e: i64, diagonal: u64, w: usize) -> u64
     folded(e, diagonal, w)
 }
 
-// The squared distance from what remains to the nearest point of the constellation, times the diagonal.
-fn floor(left: Complex, diagonal: u64, q: usize) -> u64
-    requires { ⌜ (natAbs (left .re) < 2 ^ 30) × (natAbs (left .im) < 2 ^ 30) × (diagonal ≤ mostEntry) × (q ≤ mostWidth) ⌝ }
-    ensures { λ r. ⌜ (r ≡ floorOf q diagonal (complexOf (left .re) (left .im))) × (r < 2 ^ 61) ⌝ }
-{
-    let re = nearest(left.re, diagonal, q - q / 2);
-    let im = nearest(left.im, diagonal, q / 2);
-    re * re + im * im
-}
-
-// The parts of both axes at a node, in one array: those of the real labels, then, a span later, those of the imaginary ones. Where already
-// the nearest point of the constellation gives every child a partial metric of `bound` or more, this is false and nothing is measured.
-pub fn measure(
+// The parts of both axes at a node, in one array: those of the real labels, then, a span later, those of the imaginary ones. `left` is what
+// remains of y in the row.
+pub fn fill_parts(
     shape: Shape,
-    node: Node,
-    points: &[i8; PLACES],
+    row: usize,
+    left: Complex,
     numbers: &[i32],
     tables: &[i32; TABLE],
-    bound: u64,
     axes: &mut [u64; AXES],
-) -> bool
+)
     requires { ⌜ VectorAsked (shape .streams) (shape .width) (now numbers)
-        × Tabled (shape .streams) (shape .width) (now numbers) (now tables)
-        × (0 < node .level) × (node .level ≤ shape .streams) × (length (now axes) ≡ 2 * span) × AllSmall (now axes)
-        × (node .partial < 2 ^ 61) × Points (shape .width) (now points) ⌝ }
-    ensures { λ r. ⌜ MeasuredFrom (shape .streams) (shape .width) (now (numbers .entry)) (node .level - 1) (node .bits) (node .partial)
-        bound (now (axes .exit)) r ⌝ }
+        × Tabled (shape .streams) (shape .width) (now numbers) (now tables) × (row < shape .streams)
+        × (natAbs (left .re) < 2 ^ 30) × (natAbs (left .im) < 2 ^ 30) × (length (now axes) ≡ 2 * span) × AllSmall (now axes) ⌝ }
+    ensures { λ _. ⌜ ((node : ℕ) → complexOf (left .re) (left .im)
+        ≡ remainderOf (shape .width) (rowAt (shape .streams) (shape .width) (now (numbers .entry)) row)
+        (bitsOf ((shape .streams - suc row) * shape .width) node)
+        → Measured (shape .streams) (shape .width) (now (numbers .entry)) row node (now (axes .exit))) ⌝ }
 {
     let q = shape.width;
-    let level = node.level - 1;
-    let left = remainder(points, numbers, shape.streams, q, level, node.bits);
-    let diagonal = element(numbers, level * (2 * shape.streams - level));
-    if bound <= node.partial + floor(left, diagonal as u64, q) {
-        return false;
-    }
-    let at = level * (4 * SPAN);
+    let at = row * (4 * SPAN);
     fill_axis(tables, at, left.re, q - q / 2, 0, axes);
     fill_axis(tables, at + 2 * SPAN, left.im, q / 2, SPAN, axes);
-    true
 }

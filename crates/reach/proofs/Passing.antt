@@ -6,13 +6,20 @@ use mathlib.Core.List.{List}
 use native.Mathlib.Nat.{mod-lt, suc-mul, add-mul, zero-mul, le-refl, mod-eq-of-lt}
 use native.Mathlib.Omega.{arith}
 use lib.Dec.{eqb}
-use lib.ListN.{getD}
+use lib.ListN.{getD, take, drop}
+use lib.Seq.{getD-take, getD-drop}
 use lib.Bits.{bitXor, xor-shr, xor-mod}
-use lib.Pow.{pow-pos, high, low, field, mod-mod-pow}
-use Rattle.metric.specs.Parts.{bitOf}
+use lib.Pow.{pow-pos, pow-mono, ones-lt, high, low, field, mod-mod-pow}
+use Rattle.model.specs.Block.{mostWidth}
+use Rattle.metric.specs.Parts.{span, bitOf}
+use Rattle.metric.specs.Tables.{Axis, axisBits}
+use Rattle.metric.specs.Tables.Axis.{real, imaginary}
+use Rattle.metric.proofs.Tables.{axis-few}
+use Rattle.cutoff.specs.Cut.{WidestLast, Widest}
 use Rattle.pruning.specs.Reach.{widestOf}
 use Rattle.pruning.proofs.Reach.{widest-split, widest-same, symbol-bit}
-use Rattle.reach.specs.Reach.{firstPlace, axisReach, streamReach, symbolOf, chosenReach, Reaches}
+use Rattle.reach.specs.Reach.{firstPlace, entryPlace, axisStart, axisReach, streamReach, symbolOf, chosenReach, Reaches, entriesOf}
+use Rattle.reach.proofs.Axes.{all-ones}
 use Rattle.reach.proofs.Streams.{stream-is}
 
 -- A bit of an exclusive or says that two bits are opposite
@@ -59,6 +66,39 @@ stream-wider {q} {limit} {limits} made j s h l =
       all,
       made .first (suc j) h,
     )
+
+-- A stream's entries by themselves: on either axis that of the label whose bits are all 1 is the widest
+module _ {q : ℕ} {limit : ℕ → ℕ} {limits : List ℕ} {k : ℕ} (made : Reaches q limit limits k) (j : ℕ) (inside : j < k) where
+  axis-widest : (x : Axis) (g : ℕ) → g < 2 ^ axisBits q x
+      → getD limits (entryPlace j x + g) 0 ≤ getD limits (entryPlace j x + (2 ^ axisBits q x - 1)) 0
+  unfolding axisReach
+  axis-widest x g h =
+      let w = axisBits q x in
+      let at = axisStart q j x in
+      omega (
+        arith,
+        made .entry j inside x g h,
+        made .entry j inside x (2 ^ w - 1) (ones-lt w),
+        all-ones limit at w,
+        widest-all (λ i. bitOf w g (i - at)) limit at w,
+      )
+
+  entries-at : (x : Axis) (from : ℕ) → entryPlace j x ≡ entryPlace j real + from → from + 2 ^ axisBits q x ≤ 2 * span
+      → WidestLast (entriesOf limits j) from (axisBits q x)
+  entries-at x from e room g h = omega (arith, place g h, place (2 ^ axisBits q x - 1) (ones-lt (axisBits q x)), axis-widest x g h)
+    where
+      place : (i : ℕ) → i < 2 ^ axisBits q x
+          → getD (entriesOf limits j) (from + i) 0 ≡ getD limits (entryPlace j x + i) 0
+      place i l =
+          let p : entryPlace j real + (from + i) ≡ entryPlace j x + i = omega arith in
+          getD-take (2 * span) (drop (entryPlace j real) limits) (from + i) 0 (omega arith)
+          ∙ getD-drop (entryPlace j real) limits (from + i) 0 ∙ ap (λ (n : ℕ). getD limits n 0) p
+
+  pub entries-widest : q ≤ mostWidth → Widest q (entriesOf limits j)
+  entries-widest few = record {
+    real = entries-at real 0 (omega arith) (omega (arith, pow-mono (axis-few q real few)));
+    imaginary = entries-at imaginary span (omega arith) (omega (arith, pow-mono (axis-few q imaginary few)));
+  }
 
 -- What the streams from `level` on give, by the bits of the label
 module _ (m q : ℕ) {limit : ℕ → ℕ} {limits : List ℕ} (made : Reaches q limit limits m) (bits : ℕ) where

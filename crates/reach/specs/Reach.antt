@@ -5,7 +5,7 @@ use mathlib.Core.Path.{_≡_}
 use mathlib.Core.Bool.{true}
 use mathlib.Core.List.{List}
 use mathlib.Core.Logic.{_⊎_}
-use lib.ListN.{length, getD}
+use lib.ListN.{length, getD, take, drop}
 use Rattle.model.specs.Block.{mostStreams, mostBits}
 use Rattle.metric.specs.Parts.{span, bitOf}
 use Rattle.metric.specs.Tables.{Axis, axisBits}
@@ -27,6 +27,10 @@ axisEntries = mostBits + 2 * mostStreams
 abbrev pub entryPlace : ℕ → Axis → ℕ
 entryPlace j real = axisEntries + j * (2 * span)
 entryPlace j imaginary = axisEntries + j * (2 * span) + span
+
+-- The entries of stream j: those of its real axis, then, a span later, those of its imaginary one
+abbrev pub entriesOf : List ℕ → ℕ → List ℕ
+entriesOf limits j = take (2 * span) (drop (entryPlace j real) limits)
 
 -- How many places there are
 abbrev pub limitsSize : ℕ

@@ -45,7 +45,7 @@ fn double(limits: &mut [u64], to: usize, n: usize, limit: u64)
 }
 
 // The entries of an axis of w bits, whose limits stand from a place on: for each label the widest limit of the bits that are 1 in it.
-fn fill_axis(limits: &mut [u64], at: usize, w: usize, to: usize)
+fn fill_entries(limits: &mut [u64], at: usize, w: usize, to: usize)
     requires { ⌜ (w ≤ axisWidth) × (at + w ≤ mostBits) × (mostBits ≤ to) × (to + 2 ^ w ≤ length (now limits)) ⌝ }
     ensures { λ _. ⌜ AxisFilled (now (limits .entry)) (now (limits .exit)) at w to w ⌝ }
 {
@@ -58,8 +58,22 @@ fn fill_axis(limits: &mut [u64], at: usize, w: usize, to: usize)
     }
 }
 
+// The same; an axis of 64-QAM has three bits and one of 16-QAM two, which the compiler is told here.
+fn fill_axis(limits: &mut [u64], at: usize, w: usize, to: usize)
+    requires { ⌜ (w ≤ axisWidth) × (at + w ≤ mostBits) × (mostBits ≤ to) × (to + 2 ^ w ≤ length (now limits)) ⌝ }
+    ensures { λ _. ⌜ AxisFilled (now (limits .entry)) (now (limits .exit)) at w to w ⌝ }
+{
+    if w == 3 {
+        return fill_entries(limits, at, 3, to);
+    }
+    if w == 2 {
+        return fill_entries(limits, at, 2, to);
+    }
+    fill_entries(limits, at, w, to)
+}
+
 // The widest limit of those of stream j's bits that are 1 in a symbol.
-fn stream_reach(q: usize, limits: &[u64], j: usize, symbol: usize) -> u64
+pub fn stream_reach(q: usize, limits: &[u64], j: usize, symbol: usize) -> u64
     requires { ⌜ (q ≤ mostWidth) × (j < mostStreams) × (symbol < 2 ^ q) × (length (now limits) ≡ limitsSize) ⌝ }
     ensures { λ r. ⌜ r ≡ streamReach q (now (limits .entry)) j symbol ⌝ }
 {

@@ -1,86 +1,58 @@
--- A leaf is taken: its metric lowers the minima of its bits, first those of zeros, then those of ones; then the limits are renewed behind
--- them.
-use Prim.Native.Nat.{ℕ, min}
-use mathlib.Core.Path.{_≡_, sym, _∙_, ap, ap₂}
-use mathlib.Core.Bool.{true, false, cond}
-use mathlib.Core.List.{List, _++_}
+-- A leaf is taken: its metric lowers the minima of its bits, each on its side; then the limits are renewed behind them.
+use Prim.Native.Nat.{ℕ, _+_, _*_, _<_, min}
+use mathlib.Core.Path.{_≡_, refl, sym, _∙_, ap}
+use mathlib.Core.Bool.{Bool, true, false, cond, Bool·beq}
+use mathlib.Core.List.{List}
 use native.Mathlib.Omega.{arith}
-use lib.ListN.{length, take, drop, length-append, length-drop}
-use lib.Seq.{take-at, drop-at, length-take-le}
+use lib.ListN.{getD, set, take, drop, length-set}
+use lib.Seq.{take-set-lt, take-set-le, drop-set-lt, drop-set-add}
 use Rattle.model.specs.Block.{mostBits}
 use Rattle.model.specs.Metric.{Vector, labelBits}
-use Rattle.metric.proofs.Filled.{filled-length}
-use Rattle.pruning.specs.Program.{Taken, takenOf, takenIn, zerosOf, onesOf, lowered, sooner, noted}
-use Rattle.search.specs.Limits.{minimaSize, Renewed}
+use Rattle.metric.specs.Parts.{bitOf, filled}
+use Rattle.pruning.specs.Program.{takenOf, takenIn, zerosOf, onesOf, sooner, noted}
+use Rattle.pruning.proofs.Minima.{zero-at, one-at}
+use Rattle.pruning.proofs.Steps.{lowered-hit, lowered-miss}
+use Rattle.search.specs.Limits.{minimumPlace, NotedTo, Renewed}
 
--- A leaf noted, by its parts
-noted-by : (v : Vector) (n : ℕ) → n ≡ labelBits v → (t : Taken) (node d label best : ℕ) (zeros ones : List ℕ)
-    → label ≡ cond (sooner d node (t .best) (t .label)) node (t .label) → best ≡ min d (t .best)
-    → zeros ≡ lowered n false node d (t .zeros) → ones ≡ lowered n true node d (t .ones) → takenOf label best zeros ones ≡ noted v node d t
+module _ (n label d : ℕ) (old : List ℕ) where
+  -- Before the first bit nothing is lowered
+  pub none-noted : NotedTo n label d 0 old old
+  unfolding filled
+  none-noted = record { size = refl; zeros = refl; ones = refl; limits = refl }
+
+  -- One bit more lowers its minimum on its side, and leaves the other side
+  one-more : (new : List ℕ) (i : ℕ) → i < mostBits → NotedTo n label d i old new → (bit : Bool) → bit ≡ bitOf n label i
+      → NotedTo n label d (i + 1) old (set new (minimumPlace bit i) (min d (getD new (minimumPlace bit i) 0)))
+  one-more new i h before false e =
+      let is : (x : Bool) → Bool·beq (bitOf n label i) x ≡ Bool·beq false x = λ x. ap (λ (b : Bool). Bool·beq b x) (sym e) in
+      let u = min d (getD new i 0) in record {
+        size = length-set new i u ∙ before .size;
+        zeros = take-set-lt mostBits new i u h ∙ ap (λ (x : ℕ). set (zerosOf new) i (min d x)) (zero-at new i h)
+            ∙ lowered-hit n false label d (zerosOf old) (zerosOf new) i (before .zeros) (is false);
+        ones = ap (take mostBits) (drop-set-lt mostBits new i u h)
+            ∙ lowered-miss n true label d (onesOf old) (onesOf new) i (before .ones) (is true);
+        limits = drop-set-lt (2 * mostBits) new i u (omega arith) ∙ before .limits;
+      }
+  one-more new i h before true e =
+      let is : (x : Bool) → Bool·beq (bitOf n label i) x ≡ Bool·beq true x = λ x. ap (λ (b : Bool). Bool·beq b x) (sym e) in
+      let u = min d (getD new (mostBits + i) 0) in record {
+        size = length-set new (mostBits + i) u ∙ before .size;
+        zeros = take-set-le mostBits new (mostBits + i) u (omega arith)
+            ∙ lowered-miss n false label d (zerosOf old) (zerosOf new) i (before .zeros) (is false);
+        ones = ap (take mostBits) (drop-set-add mostBits new i u) ∙ take-set-lt mostBits (drop mostBits new) i u h
+            ∙ ap (λ (x : ℕ). set (onesOf new) i (min d x)) (one-at new i h)
+            ∙ lowered-hit n true label d (onesOf old) (onesOf new) i (before .ones) (is true);
+        limits = drop-set-lt (2 * mostBits) new (mostBits + i) u (omega arith) ∙ before .limits;
+      }
+
+  -- The same, at the place that the loop has and with what it leaves there
+  pub one-noted : {new after : List ℕ} {i at : ℕ} {bit : Bool} → i < mostBits → NotedTo n label d i old new → bit ≡ bitOf n label i
+      → at ≡ minimumPlace bit i → after ≡ set new at (min d (getD new at 0)) → NotedTo n label d (i + 1) old after
+  one-noted h before e place lowered = rw (lowered, place) (one-more _ _ h before _ e)
+
+-- All bits, then the best label, and the limits renewed
+pub leaf-noted : {v : Vector} {n node d label best : ℕ} {old sides after : List ℕ} (label₀ best₀ : ℕ) → n ≡ labelBits v
+    → NotedTo n node d n old sides → label ≡ cond (sooner d node best₀ label₀) node label₀ → best ≡ min d best₀
+    → Renewed v label best sides after → takenIn label best after ≡ noted v node d (takenIn label₀ best₀ old)
 unfolding noted
-noted-by v n en t node d label best zeros ones el eb ez eo = (λ j. takenOf (el j) (eb j) (ez j) (eo j)) ∙ rw en
-
-module _ (old : List ℕ) (whole : length old ≡ minimaSize) where
-  -- The lowered minima are as many
-  pub front-whole : length (zerosOf old) ≡ mostBits
-  front-whole = length-take-le mostBits old (omega arith)
-
-  pub behind-whole : length (onesOf old) ≡ mostBits
-  behind-whole = length-take-le mostBits (drop mostBits old) (omega (arith, length-drop mostBits old))
-
-  module _ (n node d : ℕ) (zeros : List ℕ) (ez : zeros ≡ lowered n false node d (zerosOf old)) where
-    zeros-whole : length zeros ≡ mostBits
-    zeros-whole = ap length ez ∙ filled-length _ _ _ ∙ front-whole
-
-    -- With the zeros in place, the ones stand behind them
-    pub ones-behind : take mostBits (drop mostBits (zeros ++ drop mostBits old)) ≡ onesOf old
-    ones-behind = ap (take mostBits) (drop-at zeros (drop mostBits old) mostBits zeros-whole)
-
-    module _ (ones : List ℕ) (eo : ones ≡ lowered n true node d (take mostBits (drop mostBits (zeros ++ drop mostBits old)))) where
-      -- Both sides are lowered
-      abbrev sides : List ℕ
-      sides = take mostBits (zeros ++ drop mostBits old) ++ (ones ++ drop mostBits (drop mostBits (zeros ++ drop mostBits old)))
-
-      ones-are : ones ≡ lowered n true node d (onesOf old)
-      ones-are = eo ∙ ap (lowered n true node d) ones-behind
-
-      ones-whole : length ones ≡ mostBits
-      ones-whole = ap length ones-are ∙ filled-length _ _ _ ∙ behind-whole
-
-      front : take mostBits (zeros ++ drop mostBits old) ≡ zeros
-      front = take-at zeros (drop mostBits old) mostBits zeros-whole
-
-      front-length : length (take mostBits (zeros ++ drop mostBits old)) ≡ mostBits
-      front-length = ap length front ∙ zeros-whole
-
-      pub sides-whole : length sides ≡ minimaSize
-      sides-whole =
-          let rest = drop mostBits (drop mostBits (zeros ++ drop mostBits old)) in
-          omega (
-            arith,
-            length-append (take mostBits (zeros ++ drop mostBits old)) (ones ++ rest),
-            length-append ones rest,
-            length-drop mostBits (drop mostBits (zeros ++ drop mostBits old)),
-            length-drop mostBits (zeros ++ drop mostBits old),
-            length-append zeros (drop mostBits old),
-            length-drop mostBits old,
-            front-length,
-            ones-whole,
-            zeros-whole,
-          )
-
-      taken-is : (label best : ℕ) → takenIn label best sides ≡ takenOf label best zeros ones
-      taken-is label best =
-          let rest = drop mostBits (drop mostBits (zeros ++ drop mostBits old)) in
-          ap₂ (takenOf label best) (take-at (take mostBits (zeros ++ drop mostBits old)) (ones ++ rest) mostBits front-length ∙ front)
-          (ap (take mostBits) (drop-at (take mostBits (zeros ++ drop mostBits old)) (ones ++ rest) mostBits front-length) ∙ take-at ones rest mostBits ones-whole)
-
-      -- and the limits renewed
-      module _ (v : Vector) (en : n ≡ labelBits v) (label best : ℕ) (after : List ℕ) (r : Renewed v label best sides after) where
-        pub leaf-noted : (t : Taken) → t .zeros ≡ zerosOf old → t .ones ≡ onesOf old
-            → label ≡ cond (sooner d node (t .best) (t .label)) node (t .label) → best ≡ min d (t .best)
-            → takenIn label best after ≡ noted v node d t
-        leaf-noted t tz to el eb =
-            r .kept ∙ taken-is label best
-            ∙ noted-by v n en t node d label best zeros ones el eb (ez ∙ ap (lowered n false node d) (sym tz))
-            (ones-are ∙ ap (lowered n true node d) (sym to))
+leaf-noted label₀ best₀ en s el eb r = r .kept ∙ (λ j. takenOf (el j) (eb j) (s .zeros j) (s .ones j)) ∙ rw en

@@ -4,7 +4,7 @@ pub mod Renewed
 pub mod Leaves
 pub mod Rows
 pub mod Children
-pub mod Verdicts
+pub mod Levels
 pub mod Search
 pub mod Values
 pub mod Records

@@ -25,10 +25,9 @@ use Rattle.pruning.specs.Program.{Taken, opens, reachOf, reaches, lets, passing
 use Rattle.pruning.specs.Reach.{widestOf}
 use Rattle.pruning.proofs.Reach.{ltb-max, any-widest, widest-split, widest-same}
 use Rattle.cutoff.specs.Cut.{symbolReach}
-use Rattle.reach.specs.Reach.{firstPlace, entryPlace, axisStart, axisReach, Reaches, streamReach, chosenReach, symbolOf}
-use Rattle.reach.proofs.Passing.{stream-wider, chosen-is, chosen-child, xor-opposite}
-use Rattle.search.specs.Limits.{upOf, limitAt, Limited, passesBy}
-use Rattle.search.specs.Expand.{entriesOf, WouldCut}
+use Rattle.reach.specs.Reach.{firstPlace, entryPlace, entriesOf, axisStart, axisReach, Reaches, streamReach, chosenReach, symbolOf}
+use Rattle.reach.proofs.Passing.{chosen-is, chosen-child, xor-opposite}
+use Rattle.search.specs.Limits.{upOf, limitAt, Limited, passesAt, passesBy, opposite, WouldCut}
 
 up-is : (d : ℕ) (z : ℤ) → ltZ (pos d) z ≡ ltb d (upOf z)
 unfolding upOf
@@ -135,7 +134,7 @@ module _ (v : Vector) (t : Taken) (limits : List ℕ) (l : Limited v t limits) (
 
     -- The pass test by what the limits give is document 01's
     pub passing-by : (d : ℕ) → passing v t d free bits ≡ passesBy m (v .width) (t .label) (t .best) limits d level bits
-    unfolding passing lets passesBy
+    unfolding passing lets passesAt
     passing-by d =
         ap (λ (x : Bool). leb d (t .best) || x)
         (any-upFrom _ _ 0 n (λ i h. ap (λ (x : Bool). opened i && x) (reaches-limit v t d i))
@@ -143,7 +142,7 @@ module _ (v : Vector) (t : Taken) (limits : List ℕ) (l : Limited v t limits) (
         ∙ ap (ltb d) (ap (widestOf opened limit 0) split ∙ widest-split opened limit 0 free ((m - level) * v .width))
         ∙ ltb-max d _ _ ∙ ap₂ (λ (x y : ℕ). ltb d x || ltb d y) unchosen chosen-bits)
 
-  -- A child that would be cut fails the pass test
+  -- A node's child
   module _ (level node s d : ℕ) (inner : level ≡ 0 → ⊥) (inside : level ≤ m) (placed : node < 2 ^ ((m - level) * v .width))
       (few : v .width ≤ mostWidth) (symbol : s < 2 ^ v .width) where
     abbrev own : ℕ
@@ -158,22 +157,9 @@ module _ (v : Vector) (t : Taken) (limits : List ℕ) (l : Limited v t limits) (
     inside-own : own < 2 ^ v .width
     inside-own = mod-lt _ (pow-pos (v .width))
 
-    -- What its own symbol's bits give
-    own-low : WouldCut m (v .width) level node (t .label) (t .best) limits d s → streamReach (v .width) limits (level - 1) diff ≤ d
-    own-low w = ⊎-elim wide narrow (w .above-own)
-      where
-        wide : getD limits (firstPlace level) 0 ≤ d → streamReach (v .width) limits (level - 1) diff ≤ d
-        wide h =
-            le-trans
-            (stream-wider reached (level - 1) diff (omega arith) (xor-lt (v .width) s own symbol inside-own))
-            (subst (λ (l : ℕ). getD limits (firstPlace l) 0 ≤ d) (sym up) h)
-
-        narrow : symbolReach (v .width) (entriesOf limits (level - 1)) diff ≤ d → streamReach (v .width) limits (level - 1) diff ≤ d
-        narrow h = rw (← entries-reach (v .width) limits (level - 1) diff few (xor-lt (v .width) s own symbol inside-own)) h
-
     -- The chosen bits of the child: its own symbol's, and the node's
-    child-reach : chosenReach m (v .width) limits (level - 1) (bitXor (s * 2 ^ ((m - level) * v .width) + node) (t .label))
-        ≡ max (streamReach (v .width) limits (level - 1) diff) (chosenReach m (v .width) limits level (bitXor node (t .label)))
+    pub child-reach : opposite m (v .width) limits (t .label) (level - 1) (s * 2 ^ ((m - level) * v .width) + node)
+        ≡ max (streamReach (v .width) limits (level - 1) diff) (opposite m (v .width) limits (t .label) level node)
     child-reach =
         subst
         (λ (l : ℕ).
@@ -185,28 +171,13 @@ module _ (v : Vector) (t : Taken) (limits : List ℕ) (l : Limited v t limits) (
     abbrev child : ℕ
     child = s * 2 ^ ((m - level) * v .width) + node
 
-    pub would-cut : WouldCut m (v .width) level node (t .label) (t .best) limits d s → passing v t d ((level - 1) * v .width) child ≡ false
-    unfolding passesBy
-    would-cut w =
+    -- A child that would be cut fails the pass test
+    pub would-cut : (chosen : ℕ) → chosen ≡ opposite m (v .width) limits (t .label) level node
+        → WouldCut m (v .width) level chosen (t .label) (t .best) limits d s → passing v t d ((level - 1) * v .width) child ≡ false
+    unfolding passesAt
+    would-cut chosen e w =
+        let own-low : streamReach (v .width) limits (level - 1) diff ≤ d =
+        rw (← entries-reach (v .width) limits (level - 1) diff few (xor-lt (v .width) s own symbol inside-own)) (w .above-own) in
         passing-by (level - 1) child (omega arith) d
-        ∙ ap₂ _||_ (lt-leb d (t .best) (w .above-best))
-        (ap₂ _||_ (le-ltb d _ (w .above-free)) (le-ltb d _ (rw child-reach (omega (arith, own-low w, w .above-chosen)))))
-
-    -- Where a child fails, and its metric is not below any limit of the streams that its parent has not chosen, the parent fails with it
-    pub node-fails : passing v t d ((level - 1) * v .width) child ≡ false → getD limits (firstPlace level) 0 ≤ d
-        → passing v t d (level * v .width) node ≡ false
-    unfolding passesBy
-    node-fails fails h =
-        passing-by level node inside d
-        ∙ ap₂ _||_ (or-left (leb d (t .best)) _ shut)
-        (ap₂ _||_ (le-ltb d _ h)
-        (le-ltb d (chosenReach m (v .width) limits level (bitXor node (t .label)))
-        (omega (arith, child-reach, low))))
-      where
-        shut : passesBy m (v .width) (t .label) (t .best) limits d (level - 1) child ≡ false
-        shut = sym (passing-by (level - 1) child (omega arith) d) ∙ fails
-
-        low : chosenReach m (v .width) limits (level - 1) (bitXor child (t .label)) ≤ d
-        low =
-            ltb-false d (chosenReach m (v .width) limits (level - 1) (bitXor child (t .label)))
-            (or-right (ltb d (getD limits (firstPlace (level - 1)) 0)) _ (or-right (leb d (t .best)) _ shut))
+        ∙ ap₂ _||_ (lt-leb d (t .best) (omega (arith, w .above-base)))
+        (ap₂ _||_ (le-ltb d _ (omega (arith, w .above-base))) (le-ltb d _ (rw child-reach (omega (arith, own-low, w .above-base, e)))))

@@ -1,12 +1,12 @@
--- The search below a node by its steps: the state before a child is tried, and what each verdict on that child makes of it.
-use Prim.Native.Nat.{ℕ, suc, _+_, _-_, _*_, _^_, _≤_, _<_}
+-- The search below a node by its steps: the state before a child is tried, and what a turn makes of it.
+use Prim.Native.Nat.{ℕ, suc, _+_, _-_, _*_, _^_, _≤_, _<_, max}
 use mathlib.Core.Path.{_≡_, refl, sym, _∙_, ap, ap₂, subst}
 use mathlib.Core.Bool.{Bool, true, false}
 use mathlib.Core.List.{List, _++_}
-use native.Mathlib.Nat.{suc-mul, le-of-lt, le-trans, le-refl, mul-le-mul, lt-of-le-of-lt}
+use mathlib.Core.Logic.{_⊎_, ⊎-elim}
+use native.Mathlib.Nat.{le-of-lt, le-trans, lt-of-le-of-lt, min-eq-left}
 use native.Mathlib.Omega.{arith}
-use lib.Dec.{ltb}
-use borrow.Author.Tests.{ltb-true, ltb-false}
+use borrow.Author.Tests.{le-ltb}
 use lib.ListN.{length, getD, set, take}
 use lib.IntN.{ℤ}
 use Rattle.model.specs.Metric.{Vector}
@@ -14,66 +14,55 @@ use Rattle.block.proofs.Places.{rows-count}
 use Rattle.model.specs.Block.{mostWidth, mostBits}
 use Rattle.metric.specs.Rows.{childOf as rowKey}
 use Rattle.pruning.specs.Arrays.{leastFirst}
-use Rattle.pruning.specs.Program.{mostChildren, above, largestPartial, Ranged, Taken, Kept, keptOf, passing, noted, chosen, keyOf, childOf, below, restOf}
+use Rattle.pruning.specs.Program.{mostChildren, above, largestPartial, Ranged, Taken, Kept, keptOf, passing, noted, chosen, keyOf, childOf, testOf, below, restOf}
+use Rattle.pruning.specs.Counted.{countedTo, Idle}
 use Rattle.pruning.proofs.Arrays.{Same, Held, held-least, held-set, held-same, same-part}
 use Rattle.pruning.proofs.Answer.{few-children}
 use Rattle.pruning.proofs.Bounds.{kept-falls, chosen-by, symbol-inside, key-bound, keys-held, partial-low, child-placed, child-by}
 use Rattle.pruning.proofs.Turns.{rest-start, rest-same, rest-done, rest-cut, rest-halted, rest-stopped, rest-onward}
 use Rattle.pruning.proofs.Early.{rest-beyond, below-shut}
-use Rattle.reach.specs.Reach.{firstPlace}
-use Rattle.siblings.specs.Rows.{keyCount, RowLeast}
+use Rattle.pruning.proofs.Counted.{count-same, below-counted}
+use Rattle.reach.proofs.Passing.{entries-widest, stream-wider}
+use Rattle.siblings.specs.Rows.{keyCount, RowLeast, Took}
 use Rattle.siblings.proofs.Rows.{row-least-front}
 use Rattle.siblings.proofs.Taking.{took-same}
-use Rattle.search.specs.Limits.{vectorAt, passesBy, Limited, NextChild, WalkAsked, verdictBy}
-use Rattle.search.specs.Expand.{WouldCut}
-use Rattle.search.specs.declared.Verdict.{Verdict}
-use Rattle.search.specs.declared.Verdict.the-variants.{Ended, Cut, Enter, Stop}
+use Rattle.tally.specs.Tally.{oppositeReach, childPasses}
+use Rattle.search.specs.Limits.{vectorAt, passesAt, passesBy, opposite, Limited}
+use Rattle.search.specs.Expand.{LimitsAsked, Filled, Shut}
+use Rattle.search.specs.Turn.{behind, NextAsked, nextOf, NodeIn, boundsOf, BelowCounted, NodeAsked, Renewal}
+use Rattle.search.specs.declared.Node.{Node}
 use Rattle.search.proofs.Rows.{ranged, key-by}
-use Rattle.search.proofs.Values.{rest-few, keys-rise}
-use Rattle.search.proofs.Limits.{passing-by, would-cut, node-fails}
-use Rattle.search.proofs.Verdicts.{Says, says}
+use Rattle.search.proofs.Values.{rest-few, keys-rise, room-for, room-below}
+use Rattle.search.proofs.Limits.{passing-by, child-reach, would-cut}
 
--- Before a child is tried, `tried` of them were: what the search below the node makes of `from` is what is left to make of k. The keys
+-- Before a child is tried, `tried` of them were: `whole`, what the search below the node comes to, is what is left to make of k. The keys
 -- have room for the levels below
-pub record Searching (m q clip : ℕ) (numbers : List ℤ) (allowance level node partial : ℕ) (from : Kept) (tried : ℕ) (keys : List ℕ)
+pub record Searching (m q clip : ℕ) (numbers : List ℤ) (allowance : ℕ) (n : Node) (whole : Kept) (tried : ℕ) (keys : List ℕ)
     (k : Kept) (limits : List ℕ) : Type 0 where
-  pub room : level * keyCount q ≤ length keys
+  pub node : NodeIn m q clip numbers n
+  pub inner : 0 < n .level
+  pub room : n .level * keyCount q ≤ length keys
   pub rows : RowLeast q keys
   pub lowest : k .taken .best ≤ above
   pub running : k .stopped ≡ false
-  pub held : Held above (2 ^ q) (largestPartial (vectorAt m q clip numbers) (level - 1)) tried keys
-  pub left : below (vectorAt m q clip numbers) allowance level node partial from
-      ≡ restOf (vectorAt m q clip numbers) allowance (level - 1) node (2 ^ q - tried) keys k
+  pub held : Held above (2 ^ q) (largestPartial (vectorAt m q clip numbers) (n .level - 1)) tried keys
+  pub left : whole ≡ restOf (vectorAt m q clip numbers) allowance (n .level - 1) (n .bits) (2 ^ q - tried) keys k
   pub limited : Limited (vectorAt m q clip numbers) (k .taken) limits
+  pub opposed : n .chosen ≡ opposite m q limits (k .taken .label) (n .level) (n .bits)
 
--- A child is tried: `after` are the keys from then on, and r is the verdict on it
-pub record Turn (m q clip : ℕ) (numbers : List ℤ) (allowance level node partial : ℕ) (from : Kept) (limits₀ : List ℕ) (tried : ℕ)
-    (keys : List ℕ) (k : Kept) (limits : List ℕ) (after : List ℕ) (level′ child d : ℕ) (r : Verdict) : Type 0 where
-  pub asked : WalkAsked m q clip numbers level node partial (from .taken) limits₀
-  pub inner : level ≡ 0 → ⊥
-  pub searching : Searching m q clip numbers allowance level node partial from tried keys k limits
-  pub more : tried < 2 ^ q
-  pub next : NextChild m q level node keys after level′ child d
-  pub verdict : r ≡ verdictBy m q (k .count) (k .taken .label) (k .taken .best) limits allowance level d level′ child
-
--- The keys stay as many
-pub next-length : {m q level node : ℕ} {keys after : List ℕ} {level′ child d : ℕ} → NextChild m q level node keys after level′ child d
-    → length after ≡ length keys
-next-length n = n .tried .size
-
-module _ {m q clip : ℕ} {numbers : List ℤ} {level node partial : ℕ} {t : Taken} {limits₀ : List ℕ}
-    (w : WalkAsked m q clip numbers level node partial t limits₀) where
+-- A node of a vector
+module _ {m q clip : ℕ} {numbers : List ℤ} {n : Node} (w : NodeIn m q clip numbers n) where
   abbrev v : Vector
   v = vectorAt m q clip numbers
 
   streams : length (v .rows) ≡ m
   streams = rows-count m q numbers
 
-  in-range : Ranged v
+  pub in-range : Ranged v
   in-range = ranged m q clip numbers (w .asked)
 
-  inside : level ≤ length (v .rows)
-  inside = omega (arith, streams, w .inside)
+  pub within : n .level ≤ length (v .rows)
+  within = omega (arith, streams, w .inside)
 
   -- The sizes that the code computes with
   pub kids-few : 2 ^ q ≤ mostChildren
@@ -82,249 +71,358 @@ module _ {m q clip : ℕ} {numbers : List ℤ} {level node partial : ℕ} {t : T
   pub places-few : keyCount q ≤ keyCount mostWidth
   places-few = keys-rise (w .asked .vector .bits)
 
-  pub partial-few : partial ≤ above
-  partial-few = le-of-lt (lt-of-le-of-lt (w .bounded) (partial-low v in-range level))
+  pub partial-few : n .partial ≤ above
+  partial-few = le-of-lt (lt-of-le-of-lt (w .bounded) (partial-low v in-range (n .level)))
+
+  pub chosen-few : (m - n .level) * q ≤ mostBits
+  chosen-few = rest-few (n .level) (w .asked .vector)
+
+  pub node-placed : n .bits < 2 ^ ((m - n .level) * q)
+  node-placed = subst (λ (x : ℕ). n .bits < 2 ^ x) (chosen-by v m (n .level) (sym streams)) (w .placed)
+
+  pub limits-asked : (t : Taken) (limits : List ℕ) → Limited v t limits → LimitsAsked m q limits
+  limits-asked t limits limited = record {
+    size = limited .size;
+    widest = λ j inside. entries-widest limited j (omega (arith, streams)) (w .asked .vector .bits);
+    wider = λ j s inside h. stream-wider limited j s (omega (arith, streams)) h;
+  }
 
   -- A leaf is noted
-  pub leaf-noted : (allowance : ℕ) → level ≡ 0 → (count : ℕ) (stopped : Bool) → stopped ≡ false
-      → keptOf count stopped (noted v node partial t) ≡ below v allowance level node partial (keptOf count false t)
+  pub leaf-noted : (t : Taken) (allowance : ℕ) → n .level ≡ 0 → (count : ℕ) (stopped : Bool) → stopped ≡ false
+      → keptOf count stopped (noted v (n .bits) (n .partial) t) ≡ below v allowance (n .level) (n .bits) (n .partial) (keptOf count false t)
   unfolding below
-  leaf-noted allowance leaf count stopped e = rw (leaf, e)
+  leaf-noted t allowance leaf count stopped e = rw (leaf, e)
 
   -- Another node
-  module _ (inner : level ≡ 0 → ⊥) where
-    pub row-inside : level - 1 < m
+  module _ (inner : 0 < n .level) where
+    pub level-up : n .level ≡ suc (n .level - 1)
+    level-up = omega arith
+
+    pub some : n .level ≡ 0 → ⊥
+    some e = absurd (omega arith)
+
+    pub row-inside : n .level - 1 < m
     row-inside = omega (arith, w .inside)
 
-    pub chosen-few : (m - level) * q ≤ mostBits
-    chosen-few = rest-few level (w .asked .vector)
-
-    pub node-placed : node < 2 ^ ((m - level) * q)
-    node-placed = subst (λ (x : ℕ). node < 2 ^ x) (chosen-by v m level (sym streams)) (w .placed)
-
-    -- The keys of a node's children have room
-    pub keys-room : (keys : List ℕ) → level * keyCount q ≤ length keys → keyCount q ≤ length keys
-    keys-room keys h =
-        let some : 1 ≤ level = omega arith in
-        omega (arith, mul-le-mul some (le-refl (keyCount q)))
-
-    -- and those behind them are enough for the level below
-    pub keys-left : {level′ : ℕ} → level′ ≡ level - 1 → (keys : List ℕ) → level * keyCount q ≤ length keys
-        → level′ * keyCount q ≤ length keys - keyCount q
-    keys-left e keys h =
-        let up : suc (level - 1) ≡ level = omega arith in
-        omega (arith, ap (λ (l : ℕ). l * keyCount q) e, ap (λ (l : ℕ). l * keyCount q) up, suc-mul (level - 1) (keyCount q))
+    -- No key of a child is above the sentinel
+    pub filled-low : (keys : List ℕ) → Filled m q numbers n keys → (s : ℕ) → s < 2 ^ q → getD keys s 0 ≤ above
+    filled-low keys filled s h =
+        rw (filled .each s h, key-by m q numbers (w .asked .vector) clip (n .level - 1) (n .bits) (n .partial) s row-inside)
+        (le-of-lt (lt-of-le-of-lt (key-bound v (n .level) some within in-range (n .partial) (w .bounded) (n .bits) s) (partial-low v in-range (n .level - 1))))
 
     -- All children would be cut: the search below the node changes nothing
-    pub shut : (allowance : ℕ)
-        → ((s : ℕ) → s < 2 ^ q → WouldCut m q level node (t .label) (t .best) limits₀ (rowKey m q numbers (level - 1) node partial s) s)
-        → (count : ℕ) (stopped : Bool) → stopped ≡ false
-        → keptOf count stopped t ≡ below v allowance level node partial (keptOf count false t)
-    shut allowance cuts count stopped f =
-        ap (λ (x : Bool). keptOf count x t) f ∙ sym (ap (λ (l : ℕ). below v allowance l node partial (keptOf count false t)) up
-        ∙ below-shut v allowance (level - 1) node partial (keptOf count false t)
-        (λ s h. le-of-lt (lt-of-le-of-lt (key-bound v level inner inside in-range partial (w .bounded) node s) (partial-low v in-range (level - 1))))
-        fails)
-      where
-        up : level ≡ suc (level - 1)
-        up = omega arith
-
-        placed : node < 2 ^ ((m - suc (level - 1)) * q)
-        placed = subst (λ (l : ℕ). node < 2 ^ ((m - l) * q)) up node-placed
-
-        fails : (s : ℕ) → s < 2 ^ q → passing v t (keyOf v (level - 1) node partial s) ((level - 1) * q) (childOf v (level - 1) node s) ≡ false
-        fails s h =
-            let e = child-by v level inner inside m node s (s * 2 ^ ((m - level) * q) + node) (sym streams) refl in
-            rw (← key-by m q numbers (w .asked .vector) clip (level - 1) node partial s row-inside, ← e)
-            (would-cut v t limits₀ (w .limited) m (sym streams) level node s _ inner (w .inside) node-placed (w .asked .vector .bits) h (cuts s h))
+    module _ (t : Taken) (limits : List ℕ) (limited : Limited v t limits)
+        (opposed : n .chosen ≡ opposite m q limits (t .label) (n .level) (n .bits)) where
+      pub shut : (allowance : ℕ) → Shut m q numbers n (t .label) (t .best) limits → (count : ℕ) (stopped : Bool) → stopped ≡ false
+          → keptOf count stopped t ≡ below v allowance (n .level) (n .bits) (n .partial) (keptOf count false t)
+      shut allowance cuts count stopped f =
+          ap (λ (x : Bool). keptOf count x t) f
+          ∙ sym (ap (λ (l : ℕ). below v allowance l (n .bits) (n .partial) (keptOf count false t)) level-up
+          ∙ below-shut v allowance (n .level - 1) (n .bits) (n .partial) (keptOf count false t)
+          (λ s h. le-of-lt (lt-of-le-of-lt (key-bound v (n .level) some within in-range (n .partial) (w .bounded) (n .bits) s) (partial-low v in-range (n .level - 1))))
+          fails)
+        where
+          fails : (s : ℕ) → s < 2 ^ q
+              → passing v t (keyOf v (n .level - 1) (n .bits) (n .partial) s) ((n .level - 1) * q) (childOf v (n .level - 1) (n .bits) s) ≡ false
+          fails s h =
+              let e = child-by v (n .level) some within m (n .bits) s (s * 2 ^ ((m - n .level) * q) + n .bits) (sym streams) refl in
+              rw (← key-by m q numbers (w .asked .vector) clip (n .level - 1) (n .bits) (n .partial) s row-inside, ← e)
+              (would-cut v t limits limited m (sym streams) (n .level) (n .bits) s _ some (w .inside) node-placed (w .asked .vector .bits) h
+              (n .chosen) opposed (cuts s h))
 
     -- Before the first child, with the keys of all
-    pub start : (allowance : ℕ) (keys : List ℕ) → level * keyCount q ≤ length keys
-        → ((s : ℕ) → s < 2 ^ q → getD keys s 0 ≡ rowKey m q numbers (level - 1) node partial s) → RowLeast q keys
-        → (count : ℕ) (stopped : Bool) → stopped ≡ false
-        → Searching m q clip numbers allowance level node partial (keptOf count false t) 0 keys (keptOf count stopped t) limits₀
-    start allowance keys wide each rows count stopped f =
-        let g : (s : ℕ) → s < 2 ^ q → getD keys s 0 ≡ keyOf v (level - 1) node partial s =
-        λ s h. each s h ∙ key-by m q numbers (w .asked .vector) clip (level - 1) node partial s row-inside
+    pub start : (t : Taken) (limits : List ℕ) → t .best ≤ above → Limited v t limits
+        → n .chosen ≡ opposite m q limits (t .label) (n .level) (n .bits) → (allowance : ℕ) (keys : List ℕ)
+        → n .level * keyCount q ≤ length keys → Filled m q numbers n keys → (count : ℕ) (stopped : Bool) → stopped ≡ false
+        → Searching m q clip numbers allowance n (below v allowance (n .level) (n .bits) (n .partial) (keptOf count false t)) 0 keys
+        (keptOf count stopped t) limits
+    start t limits lowest limited opposed allowance keys wide filled count stopped f =
+        let g : (s : ℕ) → s < 2 ^ q → getD keys s 0 ≡ keyOf v (n .level - 1) (n .bits) (n .partial) s =
+        λ s h. filled .each s h ∙ key-by m q numbers (w .asked .vector) clip (n .level - 1) (n .bits) (n .partial) s row-inside
         in
         record {
+          node = w;
+          inner = inner;
           room = wide;
-          rows = rows;
-          lowest = w .lowest;
+          rows = filled .rows;
+          lowest = lowest;
           running = f;
-          held = keys-held v level inner inside in-range partial (w .bounded) node keys g;
+          held = keys-held v (n .level) some within in-range (n .partial) (w .bounded) (n .bits) keys g;
           left = rw f
-              (rest-start v (2 ^ q) refl allowance node level inner partial keys (omega (arith, keys-room keys wide)) g (keptOf count false t));
-          limited = w .limited;
+              (rest-start v (2 ^ q) refl allowance (n .bits) (n .level) some (n .partial) keys (omega (arith, room-for (n .level) q inner (length keys) wide)) g (keptOf count false t));
+          limited = limited;
+          opposed = opposed;
         }
 
-    module _ {allowance count₀ tried : ℕ} {keys : List ℕ} {k : Kept} {limits : List ℕ}
-        (h : Searching m q clip numbers allowance level node partial (keptOf count₀ false t) tried keys k limits)
-        (n : ℕ) (en : n ≡ 2 ^ q) where
-      -- No child is left
-      pub done : n ≤ tried → k ≡ below v allowance level node partial (keptOf count₀ false t)
-      done e = sym (h .left ∙ rest-done v (2 ^ q) refl allowance node (level - 1) tried keys k (omega arith))
+-- As many children of a node pass, below which nothing does: the search below it counts them, as far as the allowance goes
+module _ {m q clip : ℕ} {numbers : List ℤ} {n : Node} (w : NodeIn m q clip numbers n) (t : Taken) (limits : List ℕ)
+    (limited : Limited (vectorAt m q clip numbers) t limits) (opposed : n .chosen ≡ opposite m q limits (t .label) (n .level) (n .bits))
+    {keys : List ℕ} {count : ℕ} (c : BelowCounted m q numbers n (t .label) (t .best) limits keys count) where
+  inner : 0 < n .level
+  inner = omega (arith, c .above-leaves)
 
-      -- A child is tried
-      pub turn-of : tried < n → {after : List ℕ} {level′ child d : ℕ} → NextChild m q level node keys after level′ child d → (r : Verdict)
-          → r ≡ verdictBy m q (k .count) (k .taken .label) (k .taken .best) limits allowance level d level′ child
-          → Turn m q clip numbers allowance level node partial (keptOf count₀ false t) limits₀ tried keys k limits after level′
-          child d r
-      turn-of more next r er = record {
-        asked = w;
-        inner = inner;
-        searching = h;
-        more = omega arith;
-        next = next;
-        verdict = er;
-      }
+  -- The child with symbol s
+  abbrev kid : ℕ → Node
+  kid s = record {
+    level = n .level - 1;
+    bits = s * 2 ^ ((m - n .level) * q) + n .bits;
+    partial = getD keys s 0;
+    chosen = max (oppositeReach m q (t .label) limits (n .level - 1) s) (n .chosen);
+  }
 
--- What each verdict makes of it
-module _ {m q clip : ℕ} {numbers : List ℤ} {allowance level node partial : ℕ} {from : Kept} {limits₀ : List ℕ} {tried : ℕ}
-    {keys : List ℕ} {k : Kept} {limits : List ℕ} {after : List ℕ} {level′ child d : ℕ} {r : Verdict}
-    (f : Turn m q clip numbers allowance level node partial from limits₀ tried keys k limits after level′ child d r) where
-  -- Its symbol
-  abbrev s : ℕ
-  s = leastFirst keys (2 ^ q)
+  module _ (s : ℕ) (h : s < 2 ^ q) where
+    kid-key : getD keys s 0 ≡ keyOf (v w) (n .level - 1) (n .bits) (n .partial) s
+    kid-key = c .filled .each s h ∙ key-by m q numbers (w .asked .vector) clip (n .level - 1) (n .bits) (n .partial) s (row-inside w inner)
+
+    kid-is : kid s .bits ≡ childOf (v w) (n .level - 1) (n .bits) s
+    kid-is = child-by (v w) (n .level) (some w inner) (within w) m (n .bits) s (kid s .bits) (sym (streams w)) refl
+
+    kid-bound : getD keys s 0 ≤ largestPartial (v w) (n .level - 1)
+    kid-bound = rw kid-key (key-bound (v w) (n .level) (some w inner) (within w) (in-range w) (n .partial) (w .bounded) (n .bits) s)
+
+    kid-in : NodeIn m q clip numbers (kid s)
+    kid-in = record {
+      asked = w .asked;
+      inside = omega (arith, w .inside);
+      placed = child-placed (v w) (n .level) (some w inner) (within w) (n .bits) s (kid s .bits) h (w .placed) kid-is;
+      bounded = kid-bound;
+    }
+
+    kid-opposed : kid s .chosen ≡ opposite m q limits (t .label) (kid s .level) (kid s .bits)
+    kid-opposed =
+        rw opposed
+        (sym (child-reach (v w) t limits limited m (sym (streams w)) (n .level) (n .bits) s 0 (some w inner) (w .inside) (node-placed w)
+        (w .asked .vector .bits) h))
+
+    -- Its test is the definition's
+    kid-passes : childPasses m q (n .level) (boundsOf (t .best) limits n) (t .label) limits keys s
+        ≡ testOf (v w) (n .level - 1) (n .bits) s (keyOf (v w) (n .level - 1) (n .bits) (n .partial) s) t
+    unfolding childPasses passesAt
+    kid-passes =
+        ap (λ (x : ℕ). passesAt (t .best) limits x (getD keys s 0) (n .level - 1)) kid-opposed
+        ∙ sym (passing-by (v w) t limits limited m (sym (streams w)) (n .level - 1) (kid s .bits) (omega (arith, w .inside)) (getD keys s 0))
+        ∙ ap₂ (λ (x y : ℕ). passing (v w) t x ((n .level - 1) * q) y) kid-key kid-is
+
+    -- Below it nothing changes
+    kid-idle : (allowance : ℕ) → childPasses m q (n .level) (boundsOf (t .best) limits n) (t .label) limits keys s ≡ true
+        → Idle (v w) allowance (n .level - 1) (childOf (v w) (n .level - 1) (n .bits) s) (keyOf (v w) (n .level - 1) (n .bits) (n .partial) s) t
+    kid-idle allowance e before =
+        sym
+        (shut kid-in (omega (arith, c .above-leaves)) t limits limited kid-opposed allowance cuts before false refl
+        ∙ ap₂ (λ (x y : ℕ). below (v w) allowance (n .level - 1) x y (keptOf before false t)) kid-is kid-key)
+      where
+        cuts : Shut m q numbers (kid s) (t .label) (t .best) limits
+        cuts r l =
+            let two : n .level - 1 - 1 ≡ n .level - 2 = omega arith in
+            rw two (c .counted .idle s h e r l)
+
+  pub counted-below : (allowance before : ℕ) → before ≤ allowance
+      → below (v w) allowance (n .level) (n .bits) (n .partial) (keptOf before false t) ≡ countedTo allowance (before + count) t
+  counted-below allowance before few =
+      ap (λ (l : ℕ). below (v w) allowance l (n .bits) (n .partial) (keptOf before false t)) (level-up w inner)
+      ∙ below-counted (v w) allowance (n .level - 1) (n .bits) (n .partial) (keptOf before false t) refl few
+      (λ s h. lt-of-le-of-lt (key-bound (v w) (n .level) (some w inner) (within w) (in-range w) (n .partial) (w .bounded) (n .bits) s) (partial-low (v w) (in-range w) (n .level - 1)))
+      (λ s h e. kid-idle s h allowance (kid-passes s h ∙ e))
+      ∙ ap (λ (x : ℕ). countedTo allowance (before + x) t) (sym (c .counted .count-is ∙ count-same _ _ (2 ^ q) kid-passes))
+
+-- A turn
+module _ {m q clip : ℕ} {numbers : List ℤ} {allowance : ℕ} {n : Node} {whole : Kept} {tried : ℕ} {keys : List ℕ} {k : Kept}
+    {limits : List ℕ} (h : Searching m q clip numbers allowance n whole tried keys k limits) where
+  abbrev w : NodeIn m q clip numbers n
+  w = h .node
 
   abbrev at : Vector
   at = vectorAt m q clip numbers
 
-  abbrev w : WalkAsked m q clip numbers level node partial (from .taken) limits₀
-  w = f .asked
-
-  abbrev h : Searching m q clip numbers allowance level node partial from tried keys k limits
-  h = f .searching
-
-  low : getD keys s 0 ≤ largestPartial at (level - 1)
-  low = held-least (h .held) (f .more) s refl
-
-  child-is : child ≡ childOf at (level - 1) node s
-  child-is = child-by at level (f .inner) (inside w) m node s child (sym (streams w)) (f .next .number)
-
-  -- What the search below the child is asked
-  pub child-asked : WalkAsked m q clip numbers level′ child d (k .taken) limits
-  child-asked = rw (f .next .inside, f .next .least) (record {
-    asked = w .asked;
-    inside = omega (arith, w .inside);
-    placed = child-placed at level (f .inner) (inside w) node s child (symbol-inside keys q (2 ^ q) s refl refl) (w .placed)
-        child-is;
-    bounded = low;
-    lowest = h .lowest;
-    limited = h .limited;
-  })
-
-  verdict-is : r ≡ verdictBy m q (k .count) (k .taken .label) (k .taken .best) limits allowance level (getD keys s 0) (level - 1) child
-  verdict-is =
-      f .verdict
-      ∙ ap₂ (λ (x y : ℕ). verdictBy m q (k .count) (k .taken .label) (k .taken .best) limits allowance level x y child)
-      (f .next .least) (f .next .inside)
-
-  abbrev Tests : Verdict → Type 0
-  Tests x =
-      Says x (passing at (k .taken) (getD keys s 0) ((level - 1) * q) child) (ltb (getD keys s 0) (getD limits (firstPlace level) 0))
-      (ltb (k .count) allowance)
-
-  tests : (x : Verdict) → r ≡ x → Tests x
-  unfolding verdictBy
-  tests x e =
-      rw (passing-by at (k .taken) limits (h .limited) m (sym (streams w)) (level - 1) child (omega (arith, w .inside)) (getD keys s 0))
-      (subst
-      (λ (y : Verdict).
-      Says y (passesBy m q (k .taken .label) (k .taken .best) limits (getD keys s 0) (level - 1) child)
-      (ltb (getD keys s 0) (getD limits (firstPlace level) 0)) (ltb (k .count) allowance)) (sym verdict-is ∙ e)
-      (says (passesBy m q (k .taken .label) (k .taken .best) limits (getD keys s 0) (level - 1) child)
-      (ltb (getD keys s 0) (getD limits (firstPlace level) 0)) (ltb (k .count) allowance)))
-
-  -- The siblings end: the node itself would not pass with the child's partial metric
-  parent-fails : r ≡ Ended → passing at (k .taken) (getD keys s 0) (level * q) node ≡ false
-  parent-fails e =
-      let x = tests Ended e in
-      node-fails at (k .taken) limits (h .limited) m (sym (streams w)) level node s (getD keys s 0) (f .inner) (w .inside)
-      (node-placed w (f .inner)) (w .asked .vector .bits) (symbol-inside keys q (2 ^ q) s refl refl)
-      (ap (passing at (k .taken) (getD keys s 0) ((level - 1) * q)) (sym number) ∙ sym (x .0)) (ltb-false _ _ (x .1))
-    where
-      number : child ≡ s * 2 ^ ((m - level) * q) + node
-      number = f .next .number
-
-  pub ended : r ≡ Ended → (k ≡ below at allowance level node partial from) × Limited at (k .taken) limits
-  ended e =
-      let top = le-of-lt (lt-of-le-of-lt low (partial-low at (in-range w) (level - 1))) in
-      let up : level ≡ suc (level - 1) = omega (arith, f .inner) in (
-        sym (h .left
-            ∙ rest-beyond at allowance node (level - 1) (2 ^ q - tried) keys k (omega (arith, inside w, f .inner))
-            (subst (λ (l : ℕ). node < 2 ^ chosen at l) up (w .placed)) top
-            (subst (λ (l : ℕ). false ≡ passing at (k .taken) (getD keys s 0) (l * q) node) up (sym (parent-fails e)))),
-        h .limited,
-      )
-
-  -- The allowance is used up
-  pub halts : r ≡ Stop
-      → (keptOf (k .count) true (k .taken) ≡ below at allowance level node partial from) × Limited at (k .taken) limits
-  halts e =
-      let x = tests Stop e in (
-        rest-halted at (2 ^ q) refl allowance node (level - 1) tried keys k (f .more) s refl child child-is (x .0)
-            (ltb-false _ _ (x .1)) ∙ sym (h .left),
-        h .limited,
-      )
-
-  -- One child more is tried, and its key is overwritten
-  next-same : Same (2 ^ q) (set keys s above) after
-  next-same = took-same (f .next .tried)
-
-  next-held : Held above (2 ^ q) (largestPartial at (level - 1)) (tried + 1) after
-  next-held = held-same next-same (held-set (h .held) s)
-
-  next-room : level * keyCount q ≤ length after
-  next-room = omega (arith, h .room, next-length (f .next))
-
-  -- The child is cut
-  pub cut : r ≡ Cut → Searching m q clip numbers allowance level node partial from (tried + 1) after k limits
-  cut e = record {
-    room = next-room;
-    rows = f .next .tried .rows;
-    lowest = h .lowest;
-    running = h .running;
-    held = next-held;
-    left = h .left
-        ∙ rest-cut at (2 ^ q) refl allowance node (level - 1) tried keys k (f .more) s refl child child-is (tests Cut e)
-        ∙ rest-same at (2 ^ q) refl allowance node (level - 1) next-same (2 ^ q - (tried + 1)) k;
-    limited = h .limited;
+  -- What a turn asks of the node, its limits and keys
+  pub next-asked : NextAsked m q n limits keys
+  next-asked = record {
+    bits = w .asked .vector .bits;
+    streams = w .asked .vector .streams;
+    inner = h .inner;
+    inside = w .inside;
+    few = chosen-few w;
+    placed = node-placed w;
+    size = h .limited .size;
+    rows = h .rows;
   }
 
-  -- It is searched
-  module _ (e : r ≡ Enter) where
-    pub counts : k .count < allowance
-    counts = ltb-true _ _ (tests Enter e .1)
+  -- No child is left
+  pub done : 2 ^ q ≤ tried → k ≡ whole
+  done e = sym (h .left ∙ rest-done at (2 ^ q) refl allowance (n .bits) (n .level - 1) tried keys k e)
 
-    module _ (u : Kept) (is : u ≡ below at allowance level′ child d (keptOf (k .count + 1) false (k .taken))) where
-      found : u ≡ below at allowance (level - 1) child (getD keys s 0) (keptOf (k .count + 1) false (k .taken))
-      found =
-          is ∙ ap₂ (λ (x y : ℕ). below at allowance x child y (keptOf (k .count + 1) false (k .taken))) (f .next .inside) (f .next .least)
+  module _ (more : tried < 2 ^ q) where
+    -- The next child: its symbol, its partial metric
+    abbrev s : ℕ
+    s = leastFirst keys (2 ^ q)
 
-      -- to the end of the allowance
-      pub stops : u .stopped ≡ true → u ≡ below at allowance level node partial from
-      stops x =
-          rest-stopped at (2 ^ q) refl allowance node (level - 1) tried keys k (f .more) s refl child child-is (tests Enter e .0)
-          (h .running) counts u found x ∙ sym (h .left)
+    abbrev d : ℕ
+    d = getD keys s 0
 
-      -- or its subtree is finished, and the keys behind the children's are others
-      pub onward : u .stopped ≡ false → {limits : List ℕ} → Limited at (u .taken) limits
-          → (tail : List ℕ) → length (take (keyCount q) after ++ tail) ≡ length after
-          → Searching m q clip numbers allowance level node partial from (tried + 1) (take (keyCount q) after ++ tail) u limits
-      onward x l tail lt =
-          let wide : keyCount q ≤ length after = keys-room w (f .inner) after next-room in
-          let same = same-part (2 ^ q) (keyCount q) after tail (omega arith) wide in
-          record {
-            room = omega (arith, next-room);
-            rows = row-least-front q after tail (f .next .tried .rows);
-            lowest = le-trans (kept-falls at allowance (level - 1) child (getD keys s 0) _ u found .best) (h .lowest);
-            running = x;
-            held = held-same same next-held;
-            left = h .left
-                ∙ rest-onward at (2 ^ q) refl allowance node (level - 1) tried keys k (f .more) s refl child child-is
-                (tests Enter e .0) (h .running) counts u found x
-                ∙ rest-same at (2 ^ q) refl allowance node (level - 1) next-same (2 ^ q - (tried + 1)) u
-                ∙ rest-same at (2 ^ q) refl allowance node (level - 1) same (2 ^ q - (tried + 1)) u;
-            limited = l;
-          }
+    abbrev next : Node
+    next = nextOf m q n (k .taken .label) limits keys
+
+    low : d ≤ largestPartial at (n .level - 1)
+    low = held-least (h .held) more s refl
+
+    key-low : d ≤ above
+    key-low = le-of-lt (lt-of-le-of-lt low (partial-low at (in-range w) (n .level - 1)))
+
+    symbol : s < 2 ^ q
+    symbol = symbol-inside keys q (2 ^ q) s refl refl
+
+    child-is : next .bits ≡ childOf at (n .level - 1) (n .bits) s
+    child-is = child-by at (n .level) (some w (h .inner)) (within w) m (n .bits) s (next .bits) (sym (streams w)) refl
+
+    -- It is a node of the vector
+    pub child-in : NodeIn m q clip numbers next
+    child-in = record {
+      asked = w .asked;
+      inside = omega (arith, w .inside);
+      placed = child-placed at (n .level) (some w (h .inner)) (within w) (n .bits) s (next .bits) symbol (w .placed) child-is;
+      bounded = low;
+    }
+
+    -- What its chosen bits give
+    opposed : next .chosen ≡ opposite m q limits (k .taken .label) (next .level) (next .bits)
+    opposed =
+        rw (h .opposed)
+        (sym (child-reach at (k .taken) limits (h .limited) m (sym (streams w)) (n .level) (n .bits) s d (some w (h .inner)) (w .inside) (node-placed w)
+        (w .asked .vector .bits) symbol))
+
+    -- The pass tests that the code makes are the definition's
+    passes-is : passesAt (k .taken .best) limits (next .chosen) (next .partial) (next .level)
+        ≡ passing at (k .taken) d ((n .level - 1) * q) (next .bits)
+    passes-is =
+        ap (λ (x : ℕ). passesAt (k .taken .best) limits x d (n .level - 1)) opposed
+        ∙ sym (passing-by at (k .taken) limits (h .limited) m (sym (streams w)) (n .level - 1) (next .bits) (omega (arith, w .inside)) d)
+
+    -- The children end
+    pub ended : passesAt (k .taken .best) limits (n .chosen) (next .partial) (n .level) ≡ false → k ≡ whole
+    ended fails =
+        sym
+        (h .left
+        ∙ rest-beyond at allowance (n .bits) (n .level - 1) (2 ^ q - tried) keys k (omega (arith, within w, h .inner))
+        (subst (λ (l : ℕ). n .bits < 2 ^ chosen at l) (level-up w (h .inner)) (w .placed)) key-low
+        (subst (λ (l : ℕ). false ≡ passing at (k .taken) d (l * q) (n .bits)) (level-up w (h .inner)) (sym node-fails)))
+      where
+        node-fails : passing at (k .taken) d (n .level * q) (n .bits) ≡ false
+        node-fails =
+            passing-by at (k .taken) limits (h .limited) m (sym (streams w)) (n .level) (n .bits) (w .inside) d
+            ∙ ap (λ (x : ℕ). passesAt (k .taken .best) limits x d (n .level)) (sym (h .opposed)) ∙ fails
+
+    -- The allowance is used up
+    pub halts : passesAt (k .taken .best) limits (next .chosen) (next .partial) (next .level) ≡ true → allowance ≤ k .count
+        → keptOf (k .count) true (k .taken) ≡ whole
+    halts passes full =
+        rest-halted at (2 ^ q) refl allowance (n .bits) (n .level - 1) tried keys k more s refl (next .bits) child-is
+        (sym (sym passes-is ∙ passes)) full ∙ sym (h .left)
+
+    module _ {after : List ℕ} (took : Took q keys after s) where
+      next-same : Same (2 ^ q) (set keys s above) after
+      next-same = took-same took
+
+      next-room : n .level * keyCount q ≤ length after
+      next-room = omega (arith, h .room, took .size)
+
+      -- One child more is tried
+      abbrev Further : Kept → Type 0
+      Further u = Searching m q clip numbers allowance n whole (tried + 1) after u limits
+
+      onward-with : (u : Kept) → u .taken ≡ k .taken → u .stopped ≡ false
+          → whole ≡ restOf at allowance (n .level - 1) (n .bits) (2 ^ q - (tried + 1)) (set keys s above) u → Further u
+      onward-with u e f g = record {
+        node = w;
+        inner = h .inner;
+        room = next-room;
+        rows = took .rows;
+        lowest = rw e (h .lowest);
+        running = f;
+        held = held-same next-same (held-set (h .held) s);
+        left = g ∙ rest-same at (2 ^ q) refl allowance (n .bits) (n .level - 1) next-same (2 ^ q - (tried + 1)) u;
+        limited = rw e (h .limited);
+        opposed = rw e (h .opposed);
+      }
+
+      -- The child is cut
+      pub cut : passesAt (k .taken .best) limits (next .chosen) (next .partial) (next .level) ≡ false → Further k
+      cut fails =
+          onward-with k refl (h .running)
+          (h .left
+          ∙ rest-cut at (2 ^ q) refl allowance (n .bits) (n .level - 1) tried keys k more s refl (next .bits) child-is
+          (sym (sym passes-is ∙ fails)))
+
+      -- It is counted
+      module _ (passes : passesAt (k .taken .best) limits (next .chosen) (next .partial) (next .level) ≡ true) (counts : k .count < allowance) where
+        -- What the search below it is asked
+        pub child-asked : NodeAsked m q clip numbers next (k .taken) limits (behind q after)
+        child-asked = record {
+          node = child-in;
+          lowest = h .lowest;
+          limited = h .limited;
+          opposed = opposed;
+          room = room-below (n .level) q (h .inner) after next-room;
+        }
+
+        abbrev Found : Kept → Type 0
+        Found u = u ≡ below at allowance (next .level) (next .bits) (next .partial) (keptOf (k .count + 1) false (k .taken))
+
+        -- None of its own children passes, or some do, below which nothing does
+        pub left : {lower : List ℕ} {count : ℕ}
+            → ((count ≡ 0) × (0 < next .level) × Shut m q numbers next (k .taken .label) (k .taken .best) limits)
+            ⊎ BelowCounted m q numbers next (k .taken .label) (k .taken .best) limits lower count
+            → Found (countedTo allowance (k .count + 1 + count) (k .taken))
+        left {lower} {count} =
+            let few : k .count + 1 ≤ allowance = omega arith in
+            ⊎-elim
+            (λ x.
+            let total : k .count + 1 + count ≡ k .count + 1 = omega (arith, x .0) in
+            rw (total, min-eq-left few, le-ltb allowance (k .count + 1) few)
+            (shut child-in (x .1) (k .taken) limits (h .limited) opposed allowance (x .2) (k .count + 1) false refl))
+            (λ x. sym (counted-below child-in (k .taken) limits (h .limited) opposed x allowance (k .count + 1) few))
+
+        -- and the search goes on
+        pub past : (u : Kept) → Found u → u .taken ≡ k .taken → u .stopped ≡ false → Further u
+        past u is same running =
+            onward-with u same running
+            (h .left
+            ∙ rest-onward at (2 ^ q) refl allowance (n .bits) (n .level - 1) tried keys k more s refl (next .bits) child-is
+            (sym (sym passes-is ∙ passes)) (h .running) counts u is running)
+
+        -- It is searched
+        module _ (u : Kept) (is : Found u) where
+          -- to the end of the allowance
+          pub stops : u .stopped ≡ true → u ≡ whole
+          stops x =
+              rest-stopped at (2 ^ q) refl allowance (n .bits) (n .level - 1) tried keys k more s refl (next .bits) child-is
+              (sym (sym passes-is ∙ passes)) (h .running) counts u is x ∙ sym (h .left)
+
+          -- or its subtree is finished, and the keys behind the children's are others; what the node's chosen bits give is looked up anew
+          pub onward : u .stopped ≡ false → {limits′ : List ℕ} → Limited at (u .taken) limits′
+              → (tail : List ℕ) → length (take (keyCount q) after ++ tail) ≡ length after
+              → (new : Node) → Renewal m q (u .taken .label) limits′ n new
+              → Searching m q clip numbers allowance new whole (tried + 1) (take (keyCount q) after ++ tail) u limits′
+          onward x {limits′} l tail lt new e =
+              let wide : keyCount q ≤ length after = room-for (n .level) q (h .inner) (length after) next-room in
+              let same = same-part (2 ^ q) (keyCount q) after tail (omega arith) wide in
+              rw (e .level-is, e .bits-is, e .partial-is) (record {
+                node = record {
+                  asked = w .asked;
+                  inside = w .inside;
+                  placed = w .placed;
+                  bounded = w .bounded;
+                };
+                inner = h .inner;
+                room = omega (arith, next-room);
+                rows = row-least-front q after tail (took .rows);
+                lowest = le-trans (kept-falls at allowance (n .level - 1) (next .bits) d _ u is .best) (h .lowest);
+                running = x;
+                held = held-same same (held-same next-same (held-set (h .held) s));
+                left = h .left
+                    ∙ rest-onward at (2 ^ q) refl allowance (n .bits) (n .level - 1) tried keys k more s refl (next .bits) child-is
+                    (sym (sym passes-is ∙ passes)) (h .running) counts u is x
+                    ∙ rest-same at (2 ^ q) refl allowance (n .bits) (n .level - 1) next-same (2 ^ q - (tried + 1)) u
+                    ∙ rest-same at (2 ^ q) refl allowance (n .bits) (n .level - 1) same (2 ^ q - (tried + 1)) u;
+                limited = l;
+                opposed = e .chosen-is;
+              })

@@ -1,13 +1,13 @@
 -- The soft values that code writes are the model's, and so is what a search of one vector returns.
-use Prim.Native.Nat.{ℕ, _+_, _-_, _*_, _/_, _^_, _≤_, _<_}
+use Prim.Native.Nat.{ℕ, suc, _+_, _-_, _*_, _/_, _^_, _≤_, _<_}
 use mathlib.Core.Path.{_≡_, refl, sym, _∙_, ap, ap₂}
 use mathlib.Core.Bool.{Bool}
 use mathlib.Core.Logic.{⊎-elim}
 use mathlib.Core.List.{List, map, _++_}
-use native.Mathlib.Nat.{le-refl, le-trans, mul-le-mul, add-le-add}
+use native.Mathlib.Nat.{le-refl, le-trans, mul-le-mul, add-le-add, suc-mul}
 use native.Mathlib.Omega.{arith}
 use lib.IntN.{ℤ, natAbs}
-use lib.ListN.{length, getD, set, drop, replicate, length-replicate}
+use lib.ListN.{length, getD, set, take, drop, replicate, length-replicate}
 use lib.Pow.{pow-pos, pow-mono}
 use Rattle.model.specs.Metric.{Vector, labelBits, priorAt}
 use Rattle.model.specs.Soft.{softValue, places}
@@ -18,9 +18,13 @@ use Rattle.metric.specs.Rows.{VectorAsked}
 use Rattle.metric.specs.Parts.{filled}
 use Rattle.metric.proofs.Filled.{filled-more, filled-same}
 use Rattle.pruning.specs.Program.{above, sideOf, Taken, takenOf, takenIn, limitsOf, keptOf, fresh, chosen, below, valueOf, answerOf}
+use Rattle.pruning.specs.Reach.{widestOf}
+use Rattle.reach.specs.Reach.{chosenReach}
 use Rattle.siblings.specs.Rows.{keyCount}
-use Rattle.search.specs.Limits.{vectorAt, SearchAsked, minimaSize, keyPlaces, Renewed, WalkAsked}
+use Rattle.search.specs.Limits.{vectorAt, SearchAsked, minimaSize, keyPlaces, Renewed, opposite}
+use Rattle.search.specs.Turn.{NodeAsked}
 use Rattle.search.specs.Values.{MinimaLow, Answered}
+use Rattle.pruning.proofs.Arrays.{part-length}
 use Rattle.pruning.proofs.Answer.{answered, soft-is}
 use Rattle.pruning.proofs.Bounds.{minima-low}
 use Rattle.search.proofs.Rows.{ranged}
@@ -32,6 +36,22 @@ rest-few {m} {q} level h = let fewer : m - level ≤ m = omega arith in omega (a
 -- The keys of wider symbols are more
 pub keys-rise : {q w : ℕ} → q ≤ w → keyCount q ≤ keyCount w
 keys-rise {q} {w} h = let half : q - q / 2 ≤ w - w / 2 = omega arith in add-le-add (pow-mono h) (pow-mono half)
+
+-- Where there is room for the keys of some levels, there is for one
+pub room-for : (level q : ℕ) → 0 < level → (places : ℕ) → level * keyCount q ≤ places → keyCount q ≤ places
+room-for level q some places h = omega (arith, mul-le-mul some (le-refl (keyCount q)))
+
+-- and behind it for the levels below
+pub room-below : (level q : ℕ) → 0 < level → (keys : List ℕ) → level * keyCount q ≤ length keys
+    → (level - 1) * keyCount q ≤ length (take (length keys - keyCount q) (drop (keyCount q) keys))
+room-below level q some keys h =
+    let up : level ≡ suc (level - 1) = omega arith in
+    omega (arith, ap (λ (l : ℕ). l * keyCount q) up, suc-mul (level - 1) (keyCount q), part-length (keyCount q) keys)
+
+-- The root has no chosen bits
+none-chosen : (m q : ℕ) (limits : List ℕ) (label : ℕ) → 0 ≡ opposite m q limits label m 0
+unfolding chosenReach widestOf
+none-chosen m q limits label = let e : m - m ≡ 0 = omega arith in rw e
 
 -- M rows of Q bits make the label's bits
 pub bits-are : (m q clip : ℕ) (numbers : List ℤ) → m * q ≡ labelBits (vectorAt m q clip numbers)
@@ -78,14 +98,19 @@ module _ {m q clip : ℕ} {numbers : List ℤ} (h : SearchAsked m q clip numbers
     root-whole = r .size ∙ length-replicate minimaSize above
 
     -- What the walk from the root asks
-    pub root-asked : WalkAsked m q clip numbers m 0 0 (takenIn 0 above minima) (limitsOf minima)
-    root-asked = record {
-      asked = h;
-      inside = le-refl m;
-      placed = pow-pos (chosen (vectorAt m q clip numbers) m);
-      bounded = omega arith;
+    pub root-asked : (keys : List ℕ) → m * keyCount q ≤ length keys
+        → NodeAsked m q clip numbers (record { level = m; bits = 0; partial = 0; chosen = 0 }) (takenIn 0 above minima) (limitsOf minima) keys
+    root-asked keys wide = record {
+      node = record {
+        asked = h;
+        inside = le-refl m;
+        placed = pow-pos (chosen (vectorAt m q clip numbers) m);
+        bounded = omega arith;
+      };
       lowest = le-refl above;
       limited = r .limited;
+      opposed = none-chosen m q (limitsOf minima) 0;
+      room = wide;
     }
 
   -- What the walk from the root has kept at the end

@@ -1,7 +1,7 @@
--- A bit's limit as one number, what a search asks of its vector, and what is done with a child.
-use Prim.Native.Nat.{ℕ, _+_, _-_, _*_, _≤_, _<_, _^_, min}
+-- A bit's limit as one number, what a search asks of its vector, and the tests that the limits decide.
+use Prim.Native.Nat.{ℕ, _+_, _-_, _*_, _≤_, _<_, _^_, min, max}
 use mathlib.Core.Path.{_≡_}
-use mathlib.Core.Bool.{Bool, cond, _||_}
+use mathlib.Core.Bool.{Bool, true, false, cond, _||_}
 use mathlib.Core.List.{List}
 use lib.Bits.{bitXor}
 use lib.Dec.{leb, ltb}
@@ -11,14 +11,12 @@ use Rattle.model.specs.Metric.{Vector, labelBits, priorAt}
 use Rattle.model.specs.Block.{mostWidth, mostBits, mostClip}
 use Rattle.block.specs.Contents.{rowsOf}
 use Rattle.metric.specs.Rows.{VectorAsked}
-use Rattle.metric.specs.Parts.{bitOf}
-use Rattle.pruning.specs.Arrays.{leastFirst}
-use Rattle.pruning.specs.Program.{above, largestPartial, Taken, takenIn, limitsOf, reachOf, chosen}
-use Rattle.reach.specs.Reach.{limitsSize, firstPlace, Reaches, chosenReach}
-use Rattle.siblings.specs.Rows.{keyCount, Took}
+use Rattle.metric.specs.Parts.{bitOf, filled}
+use Rattle.pruning.specs.Program.{Taken, takenIn, zerosOf, onesOf, limitsOf, reachOf, loweredAt}
+use Rattle.cutoff.specs.Cut.{Beyond}
+use Rattle.reach.specs.Reach.{limitsSize, firstPlace, entriesOf, symbolOf, Reaches, chosenReach}
+use Rattle.siblings.specs.Rows.{keyCount}
 use Rattle.search.specs.declared.Task.{Task}
-use Rattle.search.specs.declared.Verdict.{Verdict}
-use Rattle.search.specs.declared.Verdict.the-variants.{Ended, Cut, Enter, Stop}
 
 -- The vector that m rows with q bits a symbol are, by their numbers
 abbrev pub vectorAt : ℕ → ℕ → ℕ → List ℤ → Vector
@@ -52,6 +50,18 @@ limitAt v t i =
 abbrev pub minimaSize : ℕ
 minimaSize = 2 * mostBits + limitsSize
 
+-- The place of the least metric with bit i as it is
+abbrev pub minimumPlace : Bool → ℕ → ℕ
+minimumPlace bit i = cond bit (mostBits + i) i
+
+-- A label of metric d is taken into the minima of the first k of its n bits: each side is lowered by the bits of that side, and the limits
+-- stay
+pub record NotedTo (n label d k : ℕ) (old new : List ℕ) : Type 0 where
+  pub size : length new ≡ length old
+  pub zeros : zerosOf new ≡ filled (loweredAt n false label d (zerosOf old)) k (zerosOf old)
+  pub ones : onesOf new ≡ filled (loweredAt n true label d (onesOf old)) k (onesOf old)
+  pub limits : limitsOf new ≡ limitsOf old
+
 -- The places of the keys of all levels, three of the widest symbols or four of 6 bits
 abbrev pub keyPlaces : ℕ
 keyPlaces = 3 * keyCount mostWidth
@@ -67,30 +77,23 @@ pub record Renewed (v : Vector) (label best : ℕ) (old new : List ℕ) : Type 0
   pub limited : Limited v (takenIn label best new) (limitsOf new)
 
 -- The pass test of a node of partial metric d with `level` streams to choose: d is at most B, or below the widest limit of the bits that are
--- not chosen, or of the chosen ones that are opposite to m's
-unfoldable pub passesBy : ℕ → ℕ → ℕ → ℕ → List ℕ → ℕ → ℕ → ℕ → Bool
-passesBy m q label best limits d level bits =
-    leb d best || (ltb d (getD limits (firstPlace level) 0) || ltb d (chosenReach m q limits level (bitXor bits label)))
+-- not chosen, or below `chosen`, that of the chosen ones that are opposite to m's
+unfoldable pub passesAt : ℕ → List ℕ → ℕ → ℕ → ℕ → Bool
+passesAt best limits chosen d level = leb d best || (ltb d (getD limits (firstPlace level) 0) || ltb d chosen)
 
--- What is done with the next child of partial metric d, of a node with `level` streams to choose: the pass test decides, and then the
--- allowance; a child that fails is cut, and all later ones with it where d is not below any limit of those streams
-unfoldable pub verdictBy : ℕ → ℕ → ℕ → ℕ → ℕ → List ℕ → ℕ → ℕ → ℕ → ℕ → ℕ → Verdict
-verdictBy m q count label best limits allowance level d level′ child =
-    cond (passesBy m q label best limits d level′ child) (cond (ltb count allowance) Enter Stop)
-    (cond (ltb d (getD limits (firstPlace level) 0)) Cut Ended)
+-- The widest limit of a node's chosen bits that are opposite to those of the best label
+abbrev pub opposite : ℕ → ℕ → List ℕ → ℕ → ℕ → ℕ → ℕ
+opposite m q limits label level bits = chosenReach m q limits level (bitXor bits label)
 
--- The next child of a node with `level` streams to choose, by the first of its smallest keys, which is then the sentinel
-pub record NextChild (m q level node : ℕ) (keys after : List ℕ) (level′ bits partial : ℕ) : Type 0 where
-  pub inside : level′ ≡ level - 1
-  pub number : bits ≡ leastFirst keys (2 ^ q) * 2 ^ ((m - level) * q) + node
-  pub least : partial ≡ getD keys (leastFirst keys (2 ^ q)) 0
-  pub tried : Took q keys after (leastFirst keys (2 ^ q)) partial
+-- The same test with that limit looked up
+abbrev pub passesBy : ℕ → ℕ → ℕ → ℕ → List ℕ → ℕ → ℕ → ℕ → Bool
+passesBy m q label best limits d level bits = passesAt best limits (opposite m q limits label level bits) d level
 
--- What the search below a node asks, with `level` streams to choose
-pub record WalkAsked (m q clip : ℕ) (numbers : List ℤ) (level node partial : ℕ) (t : Taken) (limits : List ℕ) : Type 0 where
-  pub asked : SearchAsked m q clip numbers
-  pub inside : level ≤ m
-  pub placed : node < 2 ^ chosen (vectorAt m q clip numbers) level
-  pub bounded : partial ≤ largestPartial (vectorAt m q clip numbers) level
-  pub lowest : t .best ≤ above
-  pub limited : Limited (vectorAt m q clip numbers) t limits
+-- What all children of a node with `level` streams to choose are held against: below it each of them passes
+abbrev pub baseOf : ℕ → List ℕ → ℕ → ℕ → ℕ
+baseOf best limits chosen level = max (max (best + 1) (getD limits (firstPlace (level - 1)) 0)) chosen
+
+-- The child with symbol s and partial metric d would be cut
+abbrev pub WouldCut : ℕ → ℕ → ℕ → ℕ → ℕ → ℕ → List ℕ → ℕ → ℕ → Type 0
+WouldCut m q level chosen label best limits d s =
+    Beyond q (baseOf best limits chosen level) (entriesOf limits (level - 1)) (symbolOf m q label (level - 1)) d s

@@ -3,13 +3,15 @@
 use constellation::PLACES;
 use cutoff::Bounds;
 use metric::AXES;
-use metric::Node;
 use metric::Shape;
 use metric::TABLE;
 use siblings::ABOVE;
+use siblings::Row;
+use tally::Counted;
 ghost use mathlib.Core.Path.{_≡_};
 ghost use mathlib.Core.Bool.{true, false, cond};
 ghost use Prim.Native.Nat.{_+_, _*_, _-_, _<_, _≤_, _^_, min, max};
+ghost use lib.Dec.{ltb};
 ghost use lib.IntN.{natAbs};
 ghost use lib.ListN.{length, getD, set, take};
 ghost use mathlib.Core.List.{_++_};
@@ -20,19 +22,31 @@ ghost use Rattle.constellation.specs.Points.{Points};
 ghost use Rattle.metric.specs.Rows.{VectorAsked};
 ghost use Rattle.metric.specs.Tables.{Tabled};
 ghost use Rattle.metric.specs.Parts.{filled};
-ghost use Rattle.pruning.specs.Program.{above, sideOf, valueOf, takenIn, zerosOf, onesOf, limitsOf, keptOf, reachOf, lowered, sooner, noted, below};
+ghost use Rattle.pruning.specs.Program.{above, sideOf, valueOf, takenIn, zerosOf, onesOf, limitsOf, keptOf, reachOf, sooner, noted, below};
 ghost use Rattle.reach.specs.Reach.{limitsSize};
-ghost use Rattle.siblings.specs.Rows.{keyCount, RowLeast};
-ghost use Rattle.search.specs.Limits.{vectorFor, Asked, upOf, limitAt, minimaSize, keyPlaces, passesBy, Limited, Renewed, verdictBy, WalkAsked, NextChild};
-ghost use Rattle.search.specs.Expand.{BoundsOf, Expanded};
+ghost use Rattle.siblings.specs.Rows.{keyCount, LeastRow};
+ghost use Rattle.search.specs.Limits.{vectorFor, Asked, upOf, limitAt, minimaSize, minimumPlace, NotedTo, keyPlaces, passesAt, baseOf, Limited, Renewed};
+ghost use Rattle.search.specs.Expand.{ExpandAsked, Filled, Expanded};
+ghost use Rattle.search.specs.Turn.{NextAsked, NextChild, AdvanceAsked, BelowAsked, BelowCounted, Advanced, Renewal, NodeAsked};
 ghost use Rattle.search.specs.Values.{MinimaLow, Answered};
 
-// What is done with the next child.
-enum Verdict {
+// A node: how many streams are not chosen yet, the bits that are, as a number, its partial metric, and the widest limit of those of its bits
+// that are opposite to the best label's.
+struct Node {
+    level: usize,
+    bits: u32,
+    partial: u64,
+    chosen: u64,
+}
+
+// What a turn over a node's children came to: no child that is left passes; the next child is cut; the allowance is used up; the child is
+// counted, and so many of its own children pass, below which nothing does; or it is to be searched.
+enum Turn {
     Ended,
     Cut,
-    Enter,
     Stop,
+    Left(u32),
+    Enter(Node),
 }
 
 // What a search has kept, but for the minima: nodes counted, the mark, and the best label with its metric.
@@ -127,17 +141,23 @@ fn lower(least: &mut [u64], i: usize, d: u64)
     }
 }
 
-// A leaf's metric is taken into the least ones of its bits that are `side`.
-fn note(n: usize, label: u32, d: u64, side: bool, least: &mut [u64])
-    requires { ⌜ (n ≤ mostBits) × (n ≤ length (now least)) ⌝ }
-    ensures { λ _. ⌜ now (least .exit) ≡ lowered n side label d (now (least .entry)) ⌝ }
+// The place of the least metric with bit i as it is.
+fn minimum_place(bit: bool, i: usize) -> usize
+    requires { ⌜ i < mostBits ⌝ }
+    ensures { λ r. ⌜ (r ≡ minimumPlace bit i) × (r < 2 * mostBits) ⌝ }
+{
+    if bit { ONES + i } else { i }
+}
+
+// A leaf's metric is taken into the least ones of its bits, in one pass: each bit lowers the one of its side.
+fn note(n: usize, label: u32, d: u64, minima: &mut [u64])
+    requires { ⌜ (n ≤ mostBits) × (length (now minima) ≡ minimaSize) ⌝ }
+    ensures { λ _. ⌜ NotedTo n label d n (now (minima .entry)) (now (minima .exit)) ⌝ }
 {
     let mut i = 0;
     while i < n {
         let bit = metric::bit_at(n, label, i);
-        if bit == side {
-            lower(least, i, d);
-        }
+        lower(minima, minimum_place(bit, i), d);
         i += 1;
     }
 }
@@ -196,10 +216,11 @@ fn renew_limits(task: Task, numbers: &[i32], best: Best, minima: &mut [u64])
     reach::fill(task.streams, task.width, &mut minima[LIMITS..]);
 }
 
-// May a node of partial metric d be walked? `level` streams are not chosen yet, and `bits` are those that are.
-fn passes(task: Task, kept: Kept, limits: &[u64], d: u64, level: usize, bits: u32) -> bool
-    requires { ⌜ (task .streams ≤ mostStreams) × (task .width ≤ mostWidth) × (level ≤ task .streams) × (length (now limits) ≡ limitsSize) ⌝ }
-    ensures { λ r. ⌜ r ≡ passesBy (task .streams) (task .width) (kept .label) (kept .best) (now (limits .entry)) d level bits ⌝ }
+// Does a node of partial metric d pass? `level` streams are not chosen yet, and `chosen` is the widest limit of the chosen bits that are
+// opposite to the best label's.
+fn passes(kept: Kept, limits: &[u64], d: u64, level: usize, chosen: u64) -> bool
+    requires { ⌜ (level ≤ mostStreams) × (length (now limits) ≡ limitsSize) ⌝ }
+    ensures { λ r. ⌜ r ≡ passesAt (kept .best) (now (limits .entry)) chosen d level ⌝ }
 {
     if d <= kept.best {
         return true;
@@ -207,28 +228,7 @@ fn passes(task: Task, kept: Kept, limits: &[u64], d: u64, level: usize, bits: u3
     if d < limits[reach::FIRST + level] {
         return true;
     }
-    d < reach::chosen(task.streams, task.width, limits, level, bits ^ kept.label)
-}
-
-// What is done with the next child, of a node with `level` streams to choose. Where a child fails the pass test and is not below any limit of
-// the streams that its parent has not chosen, no later child passes.
-fn judge(task: Task, kept: Kept, limits: &[u64], level: usize, child: Node) -> Verdict
-    requires { ⌜ (task .streams ≤ mostStreams) × (task .width ≤ mostWidth) × (level ≤ task .streams) × (child .level ≤ task .streams)
-        × (length (now limits) ≡ limitsSize) ⌝ }
-    ensures { λ r. ⌜ r
-        ≡ verdictBy (task .streams) (task .width) (kept .count) (kept .label) (kept .best) (now (limits .entry)) (task .allowance) level
-        (child .partial) (child .level) (child .bits) ⌝ }
-{
-    if passes(task, kept, limits, child.partial, child.level, child.bits) {
-        if kept.count < task.allowance {
-            return Verdict::Enter;
-        }
-        return Verdict::Stop;
-    }
-    if child.partial < limits[reach::FIRST + level] {
-        return Verdict::Cut;
-    }
-    Verdict::Ended
+    d < chosen
 }
 
 // A leaf is taken into the best label, the minima and the limits.
@@ -242,8 +242,7 @@ fn take_leaf(task: Task, leaf: Node, kept: Kept, numbers: &[i32], minima: &mut [
         (limitsOf (now (minima .exit))) × (length (now (minima .exit)) ≡ minimaSize) ⌝ }
 {
     let n = task.streams * task.width;
-    note(n, leaf.bits, leaf.partial, false, &mut minima[..ONES]);
-    note(n, leaf.bits, leaf.partial, true, &mut minima[ONES..LIMITS]);
+    note(n, leaf.bits, leaf.partial, minima);
     let best = better(leaf.partial, leaf.bits, kept.best, kept.label);
     renew_limits(task, numbers, best, minima);
     Kept {
@@ -262,23 +261,33 @@ fn with_symbol(symbol: usize, bits: usize, node: u32) -> u32
     ((symbol as u32) << bits) | node
 }
 
-// The next child, the first of the smallest keys, which is then above every metric.
-fn next_child(task: Task, node: Node, keys: &mut [u64]) -> Node
-    requires { ⌜ (task .width ≤ mostWidth) × RowLeast (task .width) (now keys) × (0 < node .level) × (node .level ≤ task .streams)
-        × ((task .streams - node .level) * task .width ≤ mostBits) × (node .bits < 2 ^ ((task .streams - node .level) * task .width)) ⌝ }
-    ensures { λ r. ⌜ NextChild (task .streams) (task .width) (node .level) (node .bits) (now (keys .entry)) (now (keys .exit))
-        (r .level) (r .bits) (r .partial) ⌝ }
+// The next child, the first of the smallest keys, which is then above every metric. Its chosen bits are those of its own symbol and its
+// parent's.
+fn next_child(
+    task: Task,
+    node: Node,
+    next: Row,
+    label: u32,
+    limits: &[u64],
+    keys: &mut [u64],
+) -> Node
+    requires { ⌜ NextAsked (task .streams) (task .width) node (now limits) (now keys)
+        × LeastRow (task .width) (now keys) (next .row) (next .key) ⌝ }
+    ensures { λ r. ⌜ NextChild (task .streams) (task .width) node label (now (limits .entry)) (now (keys .entry)) (now (keys .exit)) r ⌝ }
 {
-    let child = siblings::take(task.width, keys);
-    let bits = with_symbol(
-        child.symbol,
-        (task.streams - node.level) * task.width,
-        node.bits,
-    );
+    let q = task.width;
+    let after = (task.streams - node.level) * q;
+    let symbol = siblings::take(q, next.row, keys);
+    let own = metric::symbol_at(label, q, after);
+    let level = node.level - 1;
     Node {
-        level: node.level - 1,
-        bits,
-        partial: child.key,
+        level,
+        bits: with_symbol(symbol, after, node.bits),
+        partial: next.key,
+        chosen: reach::larger(
+            reach::stream_reach(q, limits, level, symbol ^ own),
+            node.chosen,
+        ),
     }
 }
 
@@ -290,6 +299,28 @@ fn counted(kept: Kept) -> Kept
     Kept {
         count: kept.count + 1,
         stopped: kept.stopped,
+        label: kept.label,
+        best: kept.best,
+    }
+}
+
+// One node more is counted, and some of its children, as far as the allowance goes.
+fn counted_with(task: Task, kept: Kept, more: u32) -> Kept
+    ensures { λ r. ⌜ (r .count ≡ min (kept .count + 1 + more) (task .allowance)) × (r .stopped ≡ ltb (task .allowance) (kept .count + 1 + more))
+        × (r .label ≡ kept .label) × (r .best ≡ kept .best) ⌝ }
+{
+    let total = kept.count as u64 + 1 + more as u64;
+    if (task.allowance as u64) < total {
+        return Kept {
+            count: task.allowance,
+            stopped: true,
+            label: kept.label,
+            best: kept.best,
+        };
+    }
+    Kept {
+        count: total as u32,
+        stopped: false,
         label: kept.label,
         best: kept.best,
     }
@@ -307,36 +338,17 @@ fn halted(kept: Kept) -> Kept
     }
 }
 
-// The widest limits that a node's children are held against.
-fn bounds_of(task: Task, node: Node, kept: Kept, limits: &[u64]) -> Bounds
-    requires { ⌜ (task .streams ≤ mostStreams) × (task .width ≤ mostWidth) × (0 < node .level) × (node .level ≤ task .streams)
-        × (length (now limits) ≡ limitsSize) ⌝ }
-    ensures { λ r. ⌜ BoundsOf (task .streams) (task .width) (node .level) (node .bits) (kept .label) (kept .best) (now (limits .entry)) r ⌝ }
+// What all children of a node are held against: below it each of them passes.
+fn base_of(node: Node, kept: Kept, limits: &[u64]) -> u64
+    requires { ⌜ (0 < node .level) × (node .level ≤ mostStreams) × (kept .best ≤ above) × (length (now limits) ≡ limitsSize) ⌝ }
+    ensures { λ r. ⌜ r ≡ baseOf (kept .best) (now (limits .entry)) (node .chosen) (node .level) ⌝ }
 {
-    Bounds {
-        best: kept.best,
-        free: limits[reach::FIRST + (node.level - 1)],
-        chosen: reach::chosen(
-            task.streams,
-            task.width,
-            limits,
-            node.level,
-            node.bits ^ kept.label,
-        ),
-        cap: limits[reach::FIRST + node.level],
-    }
+    let free = limits[reach::FIRST + (node.level - 1)];
+    reach::larger(reach::larger(kept.best + 1, free), node.chosen)
 }
 
-// From this partial metric on every child would be cut.
-fn bound_of(bounds: Bounds) -> u64
-    requires { ⌜ bounds .best ≤ above ⌝ }
-    ensures { λ r. ⌜ r ≡ max (max (bounds .best + 1) (bounds .free)) (max (bounds .chosen) (bounds .cap)) ⌝ }
-{
-    let low = reach::larger(bounds.best + 1, bounds.free);
-    reach::larger(low, reach::larger(bounds.chosen, bounds.cap))
-}
-
-// The keys of a node's children, by the parts of their two axes; false, with no key filled in, where all of them would be cut.
+// The keys of a node's children, by the parts of their two axes; false, with no key filled in, where all of them would be cut. A leaf has
+// none.
 fn expand(
     task: Task,
     node: Node,
@@ -347,49 +359,175 @@ fn expand(
     limits: &[u64],
     keys: &mut [u64],
 ) -> bool
-    requires { ⌜ VectorAsked (task .streams) (task .width) (now numbers)
-        × Tabled (task .streams) (task .width) (now numbers) (now tables)
-        × (0 < node .level) × (node .level ≤ task .streams) × (node .partial < 2 ^ 61) × (keyCount (task .width) ≤ length (now keys))
-        × (length (now limits) ≡ limitsSize) × (kept .best ≤ above) × Points (task .width) (now points) ⌝ }
-    ensures { λ r. ⌜ Expanded (task .streams) (task .width) (now (numbers .entry)) (node .level) (node .bits) (node .partial) (kept .label)
-        (kept .best) (now (limits .entry)) (now (keys .entry)) (now (keys .exit)) r ⌝ }
+    requires { ⌜ ExpandAsked task (now points) (now numbers) (now tables) node (kept .best) (now limits) (now keys) ⌝ }
+    ensures { λ r. ⌜ Expanded (task .streams) (task .width) (now (numbers .entry)) node (kept .label) (kept .best)
+        (now (limits .entry)) (now (keys .exit)) r ⌝ }
 {
-    let q = task.width;
+    if node.level == 0 {
+        return true;
+    }
     let shape = Shape {
         streams: task.streams,
-        width: q,
+        width: task.width,
     };
-    let bounds = bounds_of(task, node, kept, limits);
-    let mut axes = [0u64; AXES];
-    if !metric::measure(
+    let row = node.level - 1;
+    let base = base_of(node, kept, limits);
+    let own = metric::symbol_at(
+        kept.label,
+        task.width,
+        (task.streams - node.level) * task.width,
+    );
+    let at = reach::ENTRIES + row * reach::STREAM;
+    let left = metric::remainder(points, numbers, task.streams, task.width, row, node.bits);
+    if !cutoff::opens(
         shape,
-        node,
-        points,
+        row,
+        left,
+        node.partial,
+        base,
         numbers,
         tables,
-        bound_of(bounds),
-        &mut axes,
-    ) {
-        return false;
-    }
-    let own = metric::symbol_at(kept.label, q, (task.streams - node.level) * q);
-    let at = reach::ENTRIES + (node.level - 1) * reach::STREAM;
-    if cutoff::shuts(
-        q,
-        node.partial,
-        &axes,
-        bounds,
         &limits[at..at + reach::STREAM],
         own,
     ) {
         return false;
     }
-    siblings::fill(q, node.partial, &axes, keys);
+    let mut axes = [0u64; AXES];
+    metric::fill_parts(shape, row, left, numbers, tables, &mut axes);
+    siblings::fill(task.width, node.partial, &axes, keys);
     true
 }
 
-// The search below a node: its children in order, each cut, or searched, until they end. Their keys stand in front of those of the levels
-// below.
+// How many of a node's children pass, where nothing does below any of them; asked only of parents of parents of leaves, and only after the
+// first leaf: elsewhere that is seldom so.
+fn count_below(
+    task: Task,
+    node: Node,
+    kept: Kept,
+    points: &[i8; PLACES],
+    numbers: &[i32],
+    tables: &[i32; TABLE],
+    limits: &[u64],
+    keys: &[u64],
+) -> Counted
+    requires { ⌜ BelowAsked task (now points) (now numbers) (now tables) node (kept .best) (now limits) (now keys) ⌝ }
+    ensures { λ r. ⌜ (r .sure ≡ true → BelowCounted (task .streams) (task .width) (now (numbers .entry)) node (kept .label) (kept .best)
+        (now (limits .entry)) (now (keys .entry)) (r .count)) ⌝ }
+{
+    if node.level != 2 || kept.best == ABOVE {
+        return Counted {
+            sure: false,
+            count: 0,
+        };
+    }
+    let shape = Shape {
+        streams: task.streams,
+        width: task.width,
+    };
+    let bounds = Bounds {
+        best: kept.best,
+        free: limits[reach::FIRST + (node.level - 1)],
+        chosen: node.chosen,
+        cap: limits[reach::FIRST + node.level],
+    };
+    tally::count_passing(
+        shape,
+        node.level,
+        node.bits,
+        bounds,
+        kept.label,
+        points,
+        numbers,
+        tables,
+        limits,
+        keys,
+    )
+}
+
+// One turn over a node's children. They end where the node itself would not pass with the smallest key that is left; else the child with
+// that key is taken, cut or counted, and its own children are measured, behind the node's, unless all of those would be cut.
+fn advance(
+    task: Task,
+    node: Node,
+    kept: Kept,
+    points: &[i8; PLACES],
+    numbers: &[i32],
+    tables: &[i32; TABLE],
+    limits: &[u64],
+    keys: &mut [u64],
+) -> Turn
+    requires { ⌜ AdvanceAsked task (now points) (now numbers) (now tables) node kept (now limits) (now keys) ⌝ }
+    ensures { λ r. ⌜ Advanced task (now (numbers .entry)) node kept (now (limits .entry)) (now (keys .entry)) (now (keys .exit)) r ⌝ }
+{
+    let next = siblings::least_row(task.width, keys);
+    if !passes(kept, limits, next.key, node.level, node.chosen) {
+        return Turn::Ended;
+    }
+    let child = next_child(task, node, next, kept.label, limits, keys);
+    if !passes(kept, limits, child.partial, child.level, child.chosen) {
+        return Turn::Cut;
+    }
+    if task.allowance <= kept.count {
+        return Turn::Stop;
+    }
+    let places = key_places(task.width);
+    if !expand(
+        task,
+        child,
+        kept,
+        points,
+        numbers,
+        tables,
+        limits,
+        &mut keys[places..],
+    ) {
+        return Turn::Left(0);
+    }
+    let below = count_below(
+        task,
+        child,
+        kept,
+        points,
+        numbers,
+        tables,
+        limits,
+        &keys[places..],
+    );
+    if below.sure {
+        return Turn::Left(below.count);
+    }
+    Turn::Enter(child)
+}
+
+// The places of a node's keys: its children's, and the smallest of each row.
+fn key_places(q: usize) -> usize
+    requires { ⌜ q ≤ mostWidth ⌝ }
+    ensures { λ r. ⌜ r ≡ keyCount q ⌝ }
+{
+    (1 << q) + (1 << (q - q / 2))
+}
+
+// A node after leaves were walked below it: the limits and the best label may be others.
+fn renew_node(task: Task, node: Node, label: u32, limits: &[u64]) -> Node
+    requires { ⌜ (task .streams ≤ mostStreams) × (task .width ≤ mostWidth) × (node .level ≤ task .streams) × (length (now limits) ≡ limitsSize) ⌝ }
+    ensures { λ r. ⌜ Renewal (task .streams) (task .width) label (now (limits .entry)) node r ⌝ }
+{
+    Node {
+        level: node.level,
+        bits: node.bits,
+        partial: node.partial,
+        chosen: reach::chosen(
+            task.streams,
+            task.width,
+            limits,
+            node.level,
+            node.bits ^ label,
+        ),
+    }
+}
+
+// The search below a node: a leaf is taken into what is kept; another node's children, whose keys are filled in, are tried in order, each cut,
+// counted or searched, until they end. The keys of the levels below stand behind them.
 fn walk(
     task: Task,
     node: Node,
@@ -400,11 +538,11 @@ fn walk(
     minima: &mut [u64],
     keys: &mut [u64],
 ) -> Kept
-    requires { ⌜ WalkAsked (task .streams) (task .width) (task .clip) (now numbers) (node .level) (node .bits) (node .partial)
-        (takenIn (kept .label) (kept .best) (now minima)) (limitsOf (now minima))
+    requires { ⌜ NodeAsked (task .streams) (task .width) (task .clip) (now numbers) node
+        (takenIn (kept .label) (kept .best) (now minima)) (limitsOf (now minima)) (now keys)
         × (kept .stopped ≡ false) × Tabled (task .streams) (task .width) (now numbers) (now tables)
-        × (length (now minima) ≡ minimaSize) × (node .level * keyCount (task .width) ≤ length (now keys))
-        × Points (task .width) (now points) ⌝ }
+        × (length (now minima) ≡ minimaSize) × Points (task .width) (now points)
+        × (0 < node .level → Filled (task .streams) (task .width) (now numbers) node (now keys)) ⌝ }
     ensures { λ r. ⌜ (keptOf (r .count) (r .stopped) (takenIn (r .label) (r .best) (now (minima .exit)))
         ≡ below (vectorFor task (now (numbers .entry))) (task .allowance) (node .level) (node .bits) (node .partial)
         (keptOf (kept .count) false (takenIn (kept .label) (kept .best) (now (minima .entry)))))
@@ -414,28 +552,31 @@ fn walk(
     if node.level == 0 {
         return take_leaf(task, node, kept, numbers, minima);
     }
-    if !expand(
-        task,
-        node,
-        kept,
-        points,
-        numbers,
-        tables,
-        &minima[LIMITS..],
-        keys,
-    ) {
-        return kept;
-    }
+    let places = key_places(task.width);
     let n: usize = 1 << task.width;
-    let places = n + (1 << (task.width - task.width / 2));
     let mut k = kept;
+    let mut parent = node;
     let mut tried = 0;
     while tried < n {
-        let child = next_child(task, node, keys);
-        match judge(task, k, &minima[LIMITS..], node.level, child) {
-            Verdict::Ended => return k,
-            Verdict::Stop => return halted(k),
-            Verdict::Enter => {
+        match advance(
+            task,
+            parent,
+            k,
+            points,
+            numbers,
+            tables,
+            &minima[LIMITS..],
+            keys,
+        ) {
+            Turn::Ended => return k,
+            Turn::Stop => return halted(k),
+            Turn::Left(more) => {
+                k = counted_with(task, k, more);
+                if k.stopped {
+                    return k;
+                }
+            }
+            Turn::Enter(child) => {
                 k = walk(
                     task,
                     child,
@@ -449,8 +590,9 @@ fn walk(
                 if k.stopped {
                     return k;
                 }
+                parent = renew_node(task, parent, k.label, &minima[LIMITS..]);
             }
-            Verdict::Cut => {}
+            Turn::Cut => {}
         }
         tried += 1;
     }
@@ -485,6 +627,41 @@ fn write_soft(task: Task, numbers: &[i32], minima: &[u64], soft: &mut [i32; 24])
         soft[i] = soft_value(minima[ONES + i], minima[i], prior, task.clip);
         i += 1;
     }
+}
+
+// The search below the root, whose children's keys are filled in first.
+fn begin(
+    task: Task,
+    root: Node,
+    kept: Kept,
+    points: &[i8; PLACES],
+    numbers: &[i32],
+    tables: &[i32; TABLE],
+    minima: &mut [u64],
+    keys: &mut [u64],
+) -> Kept
+    requires { ⌜ NodeAsked (task .streams) (task .width) (task .clip) (now numbers) root
+        (takenIn (kept .label) (kept .best) (now minima)) (limitsOf (now minima)) (now keys)
+        × (kept .stopped ≡ false) × Tabled (task .streams) (task .width) (now numbers) (now tables)
+        × (length (now minima) ≡ minimaSize) × Points (task .width) (now points) ⌝ }
+    ensures { λ r. ⌜ (keptOf (r .count) (r .stopped) (takenIn (r .label) (r .best) (now (minima .exit)))
+        ≡ below (vectorFor task (now (numbers .entry))) (task .allowance) (root .level) (root .bits) (root .partial)
+        (keptOf (kept .count) false (takenIn (kept .label) (kept .best) (now (minima .entry)))))
+        × (length (now (minima .exit)) ≡ minimaSize) ⌝ }
+{
+    if expand(
+        task,
+        root,
+        kept,
+        points,
+        numbers,
+        tables,
+        &minima[LIMITS..],
+        keys,
+    ) {
+        return walk(task, root, kept, points, numbers, tables, minima, keys);
+    }
+    kept
 }
 
 // What a reply says of a vector, but for its soft values.
@@ -530,8 +707,9 @@ pub fn search_vector(
         level: task.streams,
         bits: 0,
         partial: 0,
+        chosen: 0,
     };
-    let end = walk(
+    let end = begin(
         task,
         root,
         start,

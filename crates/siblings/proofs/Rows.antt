@@ -16,6 +16,12 @@ use Rattle.pruning.proofs.Arrays.{Same, least-below, least-same, same-part}
 use Rattle.siblings.specs.Rows.{rowCount, columnCount, keyCount, rowLeast, RowLeast}
 use Rattle.siblings.proofs.Least.{First, first-is, from, part-first}
 
+-- A row's smallest key is not above any other of the row
+pub row-least-le : (q : ℕ) (keys : List ℕ) → RowLeast q keys → (a b : ℕ) → a < rowCount q → b < columnCount q
+    → getD keys (2 ^ q + a) 0 ≤ getD keys (a * columnCount q + b) 0
+row-least-le q keys h a b l m =
+    rw (h .each a l) (part-first keys (a * columnCount q) (columnCount q) _ (pow-pos _) refl .most b m)
+
 -- Row by row: a has the first of the smallest rows, b the first of the smallest in it
 module _ (q : ℕ) (keys : List ℕ) (a b : ℕ) (h : RowLeast q keys) (ea : a ≡ leastFirst (drop (2 ^ q) keys) (rowCount q))
     (eb : b ≡ leastFirst (drop (a * columnCount q) keys) (columnCount q)) where
@@ -34,10 +40,8 @@ module _ (q : ℕ) (keys : List ℕ) (a b : ℕ) (h : RowLeast q keys) (ea : a �
   -- A key is at least its row's smallest
   row-le : (i : ℕ) → i < 2 ^ q → getD keys (2 ^ q + i / columnCount q) 0 ≤ getD keys i 0
   row-le i l =
-      let k = i / columnCount q in
-      let f = part-first keys (k * columnCount q) (columnCount q) _ (pow-pos _) refl in
-      let m = f .most (i % columnCount q) (mod-lt i (pow-pos (q / 2))) in
-      rw (h .each k (row-below i l)) (rw (div-add-mod' i (columnCount q)) at m)
+      let r = row-least-le q keys h (i / columnCount q) (i % columnCount q) (row-below i l) (mod-lt i (pow-pos (q / 2))) in
+      rw (div-add-mod' i (columnCount q)) at r
 
   earlier : (i : ℕ) → i < a * columnCount q + b → getD keys (a * columnCount q + b) 0 < getD keys i 0
   earlier i l = go (ℕ-discrete (i / columnCount q) a)

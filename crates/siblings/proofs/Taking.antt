@@ -12,7 +12,7 @@ use Rattle.metric.proofs.Grid.{row-room}
 use Rattle.pruning.specs.Arrays.{leastFirst}
 use Rattle.pruning.specs.Program.{above}
 use Rattle.pruning.proofs.Arrays.{Same}
-use Rattle.siblings.specs.Rows.{rowCount, columnCount, rowLeast, RowLeast, Took}
+use Rattle.siblings.specs.Rows.{rowCount, columnCount, rowLeast, RowLeast, LeastRow, Took}
 use Rattle.siblings.proofs.Rows.{row, column, rows-first, row-key}
 
 -- The row of a child
@@ -65,22 +65,31 @@ module _ (q : ℕ) (keys : List ℕ) (a b least : ℕ) (h : RowLeast q keys) (la
           (λ x. p (sym (row-of q k i li) ∙ ap (λ (y : ℕ). y / columnCount q) x ∙ row-of q a b lb))) ∙ new-row k i lk li)
 
   new-took : a * columnCount q + b ≡ leastFirst keys (2 ^ q)
-      → Took q keys new (a * columnCount q + b) (getD keys (a * columnCount q + b) 0)
+      → Took q keys new (a * columnCount q + b)
   new-took first = record {
     size = new-length;
     first = first;
-    least = refl;
     each = new-child;
     rows = record { wide = omega (arith, h .wide, new-length); each = new-each };
   }
 
--- Taking the next child
-pub took : (q n c r : ℕ) (keys : List ℕ) (a b least : ℕ) → n ≡ 2 ^ q → c ≡ columnCount q → r ≡ rowCount q → RowLeast q keys
-    → a ≡ leastFirst (drop n keys) r → b ≡ leastFirst (drop (a * c) keys) c
-    → least ≡ leastFirst (drop (a * c) (overwritten c keys a b)) c
-    → Took q keys (withLeast n c (overwritten c keys a b) a least) (a * c + b) (getD keys (a * c + b) 0)
-took q n c r keys a b least en ec er h ea eb el =
+-- The row of the first of the smallest keys
+pub least-row : (q n r a : ℕ) (keys : List ℕ) → n ≡ 2 ^ q → r ≡ rowCount q → RowLeast q keys → a ≡ leastFirst (drop n keys) r
+    → LeastRow q keys a (getD keys (n + a) 0)
+least-row q n r a keys en er h ea =
     let fa : a ≡ leastFirst (drop (2 ^ q) keys) (rowCount q) = ea ∙ ap₂ (λ (x y : ℕ). leastFirst (drop x keys) y) en er in
+    record {
+      first = fa;
+      least = ap (λ (x : ℕ). getD keys (x + a) 0) en ∙ h .each a (row q keys a _ h fa refl .below)
+          ∙ ap (λ (x : ℕ). getD keys x 0) (rows-first q keys a _ h fa refl);
+    }
+
+-- Taking the next child
+pub took : (q n c : ℕ) (keys : List ℕ) (a b least : ℕ) → n ≡ 2 ^ q → c ≡ columnCount q → RowLeast q keys
+    → a ≡ leastFirst (drop (2 ^ q) keys) (rowCount q) → b ≡ leastFirst (drop (a * c) keys) c
+    → least ≡ leastFirst (drop (a * c) (overwritten c keys a b)) c
+    → Took q keys (withLeast n c (overwritten c keys a b) a least) (a * c + b)
+took q n c keys a b least en ec h fa eb el =
     let fb : b ≡ leastFirst (drop (a * columnCount q) keys) (columnCount q) = eb ∙ ap (λ (x : ℕ). leastFirst (drop (a * x) keys) x) ec in
     let fl = el ∙ ap (λ (x : ℕ). leastFirst (drop (a * x) (overwritten x keys a b)) x) ec in
     let la = row q keys a b h fa fb .below in
@@ -88,8 +97,8 @@ took q n c r keys a b least en ec er h ea eb el =
     rw (en, ec) (new-took q keys a b least h la lb fl (rows-first q keys a b h fa fb))
 
 -- The keys after the next child is taken, but for what stands behind them
-pub took-same : {q : ℕ} {old new : List ℕ} {symbol key : ℕ} → Took q old new symbol key → Same (2 ^ q) (set old symbol above) new
-took-same {q} {old} {new} {symbol} {key} t = record {
+pub took-same : {q : ℕ} {old new : List ℕ} {symbol : ℕ} → Took q old new symbol → Same (2 ^ q) (set old symbol above) new
+took-same {q} {old} {new} {symbol} t = record {
   wide-a = omega (arith, length-set old symbol above, t .size, t .rows .wide);
   wide-b = omega (arith, t .rows .wide);
   keys = λ i l. sym (t .each i l);

@@ -18,6 +18,10 @@ columnCount q = 2 ^ (q / 2)
 abbrev pub keyCount : ℕ → ℕ
 keyCount q = 2 ^ q + rowCount q
 
+-- A child's partial metric from what its imaginary label gives and its real label's part
+unfoldable pub columnMetric : ℕ → List ℕ → ℕ → ℕ
+columnMetric base axes a = base + realIn axes a
+
 -- The place of the smallest key of row a, the first one of equals
 abbrev pub rowLeast : ℕ → List ℕ → ℕ → ℕ
 rowLeast q keys a = a * columnCount q + leastFirst (drop (a * columnCount q) keys) (columnCount q)
@@ -33,10 +37,14 @@ pub record Placed (q partial : ℕ) (axes old new : List ℕ) : Type 0 where
   pub each : (s : ℕ) → s < 2 ^ q → getD new s 0 ≡ childMetric q partial (realIn axes) (imaginaryIn axes) s
   pub rows : RowLeast q new
 
+-- A row has the first of the smallest keys, and that key is told
+pub record LeastRow (q : ℕ) (keys : List ℕ) (row key : ℕ) : Type 0 where
+  pub first : row ≡ leastFirst (drop (2 ^ q) keys) (rowCount q)
+  pub least : key ≡ getD keys (leastFirst keys (2 ^ q)) 0
+
 -- The next child is taken: the first of the smallest keys, which is then the sentinel
-pub record Took (q : ℕ) (old new : List ℕ) (symbol key : ℕ) : Type 0 where
+pub record Took (q : ℕ) (old new : List ℕ) (symbol : ℕ) : Type 0 where
   pub size : length new ≡ length old
   pub first : symbol ≡ leastFirst old (2 ^ q)
-  pub least : key ≡ getD old symbol 0
   pub each : (s : ℕ) → s < 2 ^ q → getD new s 0 ≡ getD (set old symbol above) s 0
   pub rows : RowLeast q new

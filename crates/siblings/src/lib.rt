@@ -5,16 +5,16 @@ ghost use mathlib.Core.Path.{_≡_};
 ghost use Prim.Native.Nat.{_+_, _*_, _-_, _/_, _<_, _≤_, _^_};
 ghost use lib.ListN.{length, drop};
 ghost use Rattle.model.specs.Block.{mostWidth};
-ghost use Rattle.metric.specs.Parts.{span, AllSmall};
+ghost use Rattle.metric.specs.Parts.{span, filledFrom, AllSmall};
 ghost use Rattle.pruning.specs.Arrays.{leastFirst};
-ghost use Rattle.siblings.specs.Rows.{keyCount, RowLeast, Placed, Took};
+ghost use Rattle.siblings.specs.Rows.{rowCount, keyCount, columnMetric, RowLeast, Placed, LeastRow, Took};
 
 // Above every metric: the key of a child that was taken, and an infinite least metric.
 pub const ABOVE: u64 = 549755813888;
 
-// A child: its symbol, and its partial metric.
-pub struct Child {
-    pub symbol: usize,
+// A row of the constellation, by its real label, and its smallest key.
+pub struct Row {
+    pub row: usize,
     pub key: u64,
 }
 
@@ -48,39 +48,70 @@ fn least_first(keys: &[u64], from: usize, n: usize) -> usize
     least_from(keys, from, n)
 }
 
+// The smallest key of each row, in the keys from a place on: `base` is what the smallest ones share.
+fn fill_row_least(rows: usize, base: u64, axes: &[u64; AXES], at: usize, keys: &mut [u64])
+    requires { ⌜ (base < 2 ^ 63) × AllSmall (now axes) × (rows ≤ span) × (at + rows ≤ length (now keys)) ⌝ }
+    ensures { λ _. ⌜ now (keys .exit) ≡ filledFrom at (columnMetric base (now (axes .entry))) rows (now (keys .entry)) ⌝ }
+{
+    let mut a = 0;
+    while a < rows {
+        keys[at + a] = base + axes[a];
+        a += 1;
+    }
+}
+
+// The same, with the rows of 64-QAM and 16-QAM made known to the compiler.
+fn fill_least(rows: usize, base: u64, axes: &[u64; AXES], at: usize, keys: &mut [u64])
+    requires { ⌜ (base < 2 ^ 63) × AllSmall (now axes) × (rows ≤ span) × (at + rows ≤ length (now keys)) ⌝ }
+    ensures { λ _. ⌜ now (keys .exit) ≡ filledFrom at (columnMetric base (now (axes .entry))) rows (now (keys .entry)) ⌝ }
+{
+    if rows == 8 {
+        return fill_row_least(8, base, axes, at, keys);
+    }
+    if rows == 4 {
+        return fill_row_least(4, base, axes, at, keys);
+    }
+    fill_row_least(rows, base, axes, at, keys)
+}
+
 // The keys of a node's children, and behind them the smallest of each row. A row's keys differ by their imaginary parts alone, so the
-// smallest one stands in the same column of each.
+// smallest one stands in the same column of each, and differs from another row's by the real part alone.
 pub fn fill(q: usize, partial: u64, axes: &[u64; AXES], keys: &mut [u64])
     requires { ⌜ (q ≤ mostWidth) × (partial < 2 ^ 62) × (length (now axes) ≡ 2 * span) × AllSmall (now axes)
         × (keyCount q ≤ length (now keys)) ⌝ }
     ensures { λ _. ⌜ Placed q partial (now (axes .entry)) (now (keys .entry)) (now (keys .exit)) ⌝ }
 {
     metric::fill_children(q, partial, axes, keys);
+    let column = least_first(axes, AXES / 2, 1 << (q / 2));
+    let base = partial + axes[AXES / 2 + column];
+    fill_least(1 << (q - q / 2), base, axes, 1 << q, keys);
+}
+
+// The row of the first of the smallest keys, and that key: of the rows' smallest the first one of the smallest.
+pub fn least_row(q: usize, keys: &[u64]) -> Row
+    requires { ⌜ (q ≤ mostWidth) × RowLeast q (now keys) ⌝ }
+    ensures { λ r. ⌜ LeastRow q (now (keys .entry)) (r .row) (r .key) ⌝ }
+{
     let n: usize = 1 << q;
-    let rows: usize = 1 << (q - q / 2);
-    let columns: usize = 1 << (q / 2);
-    let column = least_first(axes, AXES / 2, columns);
-    let mut a = 0;
-    while a < rows {
-        keys[n + a] = keys[a * columns + column];
-        a += 1;
+    let row = least_first(keys, n, 1 << (q - q / 2));
+    Row {
+        row,
+        key: keys[n + row],
     }
 }
 
-// Takes the next child, the first of the smallest keys: its key is then above every metric, and its row has another smallest one.
-pub fn take(q: usize, keys: &mut [u64]) -> Child
-    requires { ⌜ (q ≤ mostWidth) × RowLeast q (now keys) ⌝ }
-    ensures { λ r. ⌜ Took q (now (keys .entry)) (now (keys .exit)) (r .symbol) (r .key) ⌝ }
+// Takes the next child, the first of the smallest keys, in its row: its key is then above every metric, and its row has another smallest one.
+pub fn take(q: usize, row: usize, keys: &mut [u64]) -> usize
+    requires { ⌜ (q ≤ mostWidth) × RowLeast q (now keys) × (row ≡ leastFirst (drop (2 ^ q) (now keys)) (rowCount q)) ⌝ }
+    ensures { λ r. ⌜ Took q (now (keys .entry)) (now (keys .exit)) r ⌝ }
 {
     let n: usize = 1 << q;
     let columns: usize = 1 << (q / 2);
-    let a = least_first(keys, n, 1 << (q - q / 2));
-    let start = a * columns;
+    let start = row * columns;
     let symbol = start + least_first(keys, start, columns);
-    let key = keys[symbol];
     keys[symbol] = ABOVE;
     let least = start + least_first(keys, start, columns);
     let next = keys[least];
-    keys[n + a] = next;
-    Child { symbol, key }
+    keys[n + row] = next;
+    symbol
 }

@@ -105,6 +105,11 @@ module _ (l : List ℕ) (place k v : ℕ) where
           state-here
           ∙ rw (groups-last _ (eqb k 0) place _ (drop (place + 1) l) b, lastGroup-is (eqb k 0) (getD l place 0) (place + 1) some, all)
 
+-- A first group without the high bit is the whole number, 0 too
+pub number-of-one : (l : List ℕ) (at : ℕ) → at < length l → getD l at 0 < 128 → numberAt l at ≡ Value (getD l at 0) (at + 1)
+unfolding numberAt lastGroup
+number-of-one l at here one = rw (drop-cons l at 0) (groups-last _ true at _ (drop (suc at) l) one)
+
 -- Seven bits masked out, shifted and set are the digits added, and they stay below the next group's
 pub digits-set : (b v k : ℕ) → k < 4 → v < 2 ^ (7 * k) → bitOr v (bitAnd b 127 * 2 ^ (7 * k) % 2 ^ 32) ≡ b % 128 * 2 ^ (7 * k) + v
 digits-set b v k h l =

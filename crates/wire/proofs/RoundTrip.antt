@@ -160,6 +160,10 @@ module _ (l : List ℕ) (at : ℕ) where
       go Short e = tt
       go Malformed e = tt
 
+  -- So an answer that is the definition's has its bounds
+  pub answered : (r : Number) → r ≡ numberAt l at → (r ≡ numberAt l at) × Sound r (length l)
+  answered r e = (e, rw e read-sound)
+
   -- Whatever is read as n has as many bytes as writing n makes
   pub read-ends : (n next : ℕ) → numberAt l at ≡ Value n next → next ≡ at + length (bytesOf n)
   unfolding bytesOf

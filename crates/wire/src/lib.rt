@@ -14,8 +14,21 @@ pub enum Number {
     Malformed,
 }
 
-// The number at a place, put together by shift and mask. After k groups the value is below 2 to the 7k, so the next seven bits are free.
+// The number at a place. Where the first byte has no high bit it is the whole number, and nothing is put together.
 pub fn read_number(bytes: &[u8], at: usize) -> Number
+    ensures { λ r. ⌜ (r ≡ numberAt (now (bytes .entry)) at) × Sound r (length (now (bytes .entry))) ⌝ }
+{
+    if at < bytes.len() {
+        let first = bytes[at];
+        if first < 128 {
+            return Number::Value(first as u32, at + 1);
+        }
+    }
+    read_groups(bytes, at)
+}
+
+// The same by shift and mask, group by group. After k groups the value is below 2 to the 7k, so the next seven bits are free.
+fn read_groups(bytes: &[u8], at: usize) -> Number
     ensures { λ r. ⌜ (r ≡ numberAt (now (bytes .entry)) at) × Sound r (length (now (bytes .entry))) ⌝ }
 {
     let mut value: u32 = 0;

@@ -6,7 +6,7 @@ use Prim.Native.Nat.{ℕ, _+_, _-_, _*_, _≤_, _<_, _^_}
 use native.Mathlib.Nat.{mod-lt, mul-le-mul}
 use native.Mathlib.Omega.{arith}
 use lib.IntN.{natAbs}
-use lib.Pow.{pow-mono, pow-pos}
+use lib.Pow.{pow-pos}
 use mir.Syntax.{w64}
 use mir.Val.{SFits, toZ}
 use mir.Facts.{toZ-ofZ}
@@ -17,8 +17,8 @@ use Rattle.model.specs.Block.{mostWidth, mostReceived}
 use Rattle.constellation.specs.Points.{complexOf}
 use Rattle.block.specs.Contents.{complexAt}
 use Rattle.metric.specs.Rows.{rowStart}
-use Rattle.metric.proofs.Rows.{row-end, square-few, entry-within, received-within}
-use Rattle.metric.proofs.Remainders.{point-parts, remains, rest-of, rest-start, rest-turn, rest-done, mostTerm, term-few}
+use Rattle.metric.proofs.Rows.{row-end, square-few, received-within}
+use Rattle.metric.proofs.Remainders.{remains, rest-of, rest-start, rest-turn, rest-done, mostTerm, term-few, term-asked}
 use Rattle.metric.proofs.remainder.Statement.{statement}
 use Rattle.metric.proofs.remainder.Tie as tie
 
@@ -72,17 +72,7 @@ term-requires : tie.Need-term-requires Inv-loop μ-loop
 term-requires c κs =
     let s = c .before .before .before .before .before in
     let t = c .before .before .loop .t in
-    let h = c .before .loop-test .taken in
-    let e = entry-within (s .pre .0) (s .args .level) (s .pre .1) t (omega (arith, h)) in
-    let p = point-parts (s .args .q) (c .symbol-at .result) (s .pre .0 .bits) _ _ (s .pre .2 .each (c .symbol-at .result) (below c)) in
-    record {
-      below = omega (arith, below c, pow-mono (s .pre .0 .bits));
-      point-re = p .0;
-      point-im = p .1;
-      room = omega (arith, h, row-end (s .args .m) (s .args .level) (s .pre .1), s .pre .0 .room);
-      real = e .re;
-      imaginary = e .im;
-    }
+    term-asked (s .pre .0) (s .pre .2) (s .args .level) t (c .symbol-at .result) (s .pre .1) (c .before .loop-test .taken) (below c)
 
 -- Its term, with the point by the Gray rule
 product : (c : tie.After-term Inv-loop μ-loop)

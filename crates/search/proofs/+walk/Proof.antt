@@ -1,36 +1,39 @@
--- A node whose children would all be cut is left at once. Else each turn over them is one step of the search below the node, as the verdict
--- on the child says.
+-- A leaf is taken into what is kept. Else each turn over the node's children is one step of the search below the node, as the turn's answer
+-- says.
 use mathlib.Core.Logic.{⊎-elim}
-use mathlib.Core.Bool.{false}
-use mathlib.Core.Path.{_≡_, refl, _∙_, sym, ap}
+use mathlib.Core.Bool.{true, false}
+use mathlib.Core.Path.{_≡_, refl, _∙_, sym, ap, ap₂, subst}
 use mathlib.Core.List.{List}
 use Prim.Native.Nat.{ℕ, _<_, _≤_, _+_, _-_, _*_, _/_, _%_, _^_}
 use native.Mathlib.Omega.{arith}
+use native.Mathlib.Nat.{le-refl}
 use borrow.Author.Needs.{needs}
-use borrow.Author.Tests.{not-true, not-false}
 use borrow.Fn.Kinds.{In}
 use borrow.Fn.PlainCycle.{Measures, is, falls, and}
-use native.Mathlib.Nat.{le-refl}
-use lib.ListN.{length}
-use borrow.Rule.Slice.PartMut.{same-len-mid}
+use borrow.Rule.Slice.PartMut.{putMid, same-len-mid}
+use lib.ListN.{length, take, drop}
 use Rattle.metric.proofs.Shifts.{one-shifted}
-use Rattle.pruning.specs.Program.{takenIn, limitsOf, keptOf}
-use Rattle.pruning.proofs.Arrays.{part-length}
+use Rattle.pruning.specs.Program.{Kept, takenIn, limitsOf, keptOf, below}
 use Rattle.pruning.proofs.Minima.{limits-part, limits-length}
-use Rattle.reach.specs.Reach.{limitsSize}
 use Rattle.siblings.specs.Rows.{keyCount}
-use Rattle.search.specs.Limits.{minimaSize, verdictBy}
-use Rattle.search.proofs.Search.{Searching, partial-few, leaf-noted, kids-few, places-few, keys-room, keys-left, next-length, chosen-few}
-use Rattle.search.proofs.Search.{node-placed, shut, start, done}
-use Rattle.search.proofs.Search.{Turn, turn-of, child-asked, ended, halts, cut, counts, stops, onward}
+use Rattle.search.specs.Limits.{vectorFor, minimaSize}
+use Rattle.search.specs.Expand.{Filled}
+use Rattle.search.specs.Turn.{behind, nextOf, AdvanceAsked, Advanced, Renewal, NodeAsked}
+use Rattle.search.specs.declared.Node.{Node}
+use Rattle.search.specs.declared.Turn.{Turn}
+use Rattle.search.specs.declared.Turn.the-variants.{Ended, Cut, Stop, Left, Enter}
+use Rattle.search.proofs.Values.{room-for}
+use Rattle.search.proofs.Search.{Searching, partial-few, leaf-noted, kids-few, places-few, start, limits-asked, next-asked}
+use Rattle.search.proofs.Search.{done, ended, halts, cut, left, past, child-asked, child-in, stops, onward}
 use Rattle.search.proofs.walk.Reads as walk
 use Rattle.search.proofs.walk.Kinds as walk-kinds
 use Rattle.search.proofs.+walk.Lts-walk as walk-lts
+use Rattle.search.proofs.advance.Reads as advance-reads
 use Rattle.search.proofs.counted.Reads as counted-reads
-use Rattle.search.proofs.expand.Reads as expand-reads
+use Rattle.search.proofs.counted_with.Reads as counted-with-reads
 use Rattle.search.proofs.halted.Reads as halted-reads
-use Rattle.search.proofs.judge.Reads as judge-reads
-use Rattle.search.proofs.next_child.Reads as next-child-reads
+use Rattle.search.proofs.key_places.Reads as key-places-reads
+use Rattle.search.proofs.renew_node.Reads as renew-node-reads
 use Rattle.search.proofs.take_leaf.Reads as take-leaf-reads
 use Rattle.search.proofs.+walk.{statement}
 use Rattle.search.proofs.+walk.Tie.{close}
@@ -45,182 +48,302 @@ abbrev walk-below : ℕ → In 5 walk-kinds.ps
 walk-below t = and 5 walk-kinds.ps (falls 5 walk-kinds.ps _<_ μ-walk t) walk.Pre
 
 abbrev Inv : walk-lts.InvT-loop
-Inv task node points numbers tables minima₀ keys₀ n places k₀ tried₀ minima keys k tried =
+Inv task points numbers tables minima₀ keys₀ places n k₀ parent₀ tried₀ minima keys k parent tried =
     (n ≡ 2 ^ task .width) × (places ≡ keyCount (task .width)) × (length minima ≡ minimaSize) × (length keys ≡ length keys₀)
-    × Searching (task .streams) (task .width) (task .clip) numbers (task .allowance) (node .level) (node .bits) (node .partial)
-    (keptOf (k₀ .count) false (takenIn (k₀ .label) (k₀ .best) minima₀)) tried keys
+    × (parent .level ≡ parent₀ .level)
+    × Searching (task .streams) (task .width) (task .clip) numbers (task .allowance) parent
+    (below (vectorFor task numbers) (task .allowance) (parent₀ .level) (parent₀ .bits) (parent₀ .partial)
+    (keptOf (k₀ .count) false (takenIn (k₀ .label) (k₀ .best) minima₀))) tried keys
     (keptOf (k .count) (k .stopped) (takenIn (k .label) (k .best) minima)) (limitsOf minima)
 
 abbrev μ-loop : walk-lts.MeasureT-loop
-μ-loop task node points numbers tables minima₀ keys₀ n places k₀ tried₀ minima keys k tried = n - tried
+μ-loop task points numbers tables minima₀ keys₀ places n k₀ parent₀ tried₀ minima keys k parent tried = n - tried
 
 abbrev calls : ℕ → walk-lts.Claims
 calls t = (
   take-leaf-reads.Asked,
   take-leaf-reads.Learnt,
-  expand-reads.Asked,
-  expand-reads.Learnt,
-  next-child-reads.Asked,
-  next-child-reads.Learnt,
-  judge-reads.Asked,
-  judge-reads.Learnt,
+  key-places-reads.Asked,
+  key-places-reads.Learnt,
+  advance-reads.Asked,
+  advance-reads.Learnt,
   halted-reads.Asked,
   halted-reads.Learnt,
+  counted-with-reads.Asked,
+  counted-with-reads.Learnt,
   counted-reads.Asked,
   counted-reads.Learnt,
   walk-below t,
   walk.Post,
+  renew-node-reads.Asked,
+  renew-node-reads.Learnt,
 )
 
--- The places of a node's keys, as they are computed
-module _ (t : ℕ) (s : walk-lts.Start (calls t) (walk-at t) walk.Post Inv μ-loop) where
-  children-are : 1 * 2 ^ s .args .task .width % 2 ^ 64 ≡ 2 ^ s .args .task .width
-  children-are = one-shifted (s .args .task .width) (omega (arith, s .pre .1 .0 .asked .vector .bits))
-
-  rows-are : let h = s .args .task .width - s .args .task .width / 2 in 1 * 2 ^ h % 2 ^ 64 ≡ 2 ^ h
-  rows-are = one-shifted _ (omega (arith, s .pre .1 .0 .asked .vector .bits))
-
-  abbrev placesOf : ℕ
-  placesOf = 1 * 2 ^ s .args .task .width % 2 ^ 64 + 1 * 2 ^ (s .args .task .width - s .args .task .width / 2) % 2 ^ 64
-
-  limits-whole : length (limitsOf (s .args .minima .now)) ≡ limitsSize
-  limits-whole = limits-length (s .args .minima .now) ∙ omega (arith, s .pre .1 .3)
-
--- From the turn at which a child is known, back to its loop, its node and the start
-module _ (t : ℕ) (c : walk-lts.After-next-child (calls t) (walk-at t) walk.Post Inv μ-loop) where
+-- A turn, back to the loop, to the node and to the start
+module _ (t : ℕ) (c : walk-lts.After-advance (calls t) (walk-at t) walk.Post Inv μ-loop) where
   abbrev loop : walk-lts.At-loop (calls t) (walk-at t) walk.Post Inv μ-loop
-  loop = c .before .before .before
-
-  abbrev node : walk-lts.Else1 (calls t) (walk-at t) walk.Post Inv μ-loop
-  node = c .before .before .before .before .before .before .before .before .before .before .before .before .before .before
+  loop = c .before .before .before .before .before
 
   abbrev begin : walk-lts.Start (calls t) (walk-at t) walk.Post Inv μ-loop
-  begin = c .before .before .before .before .before .before .before .before .before .before .before .before .before .before .before .before .before .before
+  begin = c .before .before .before .before .before .before .before .before .before .before .before .before
 
-  -- The keys are as many as they were
-  keys-length : length (c .next-child .last .1 .1 .0) ≡ length (begin .args .keys .now)
-  keys-length = next-length (c .next-child .ensures) ∙ loop .loop .inv .3 ∙ c .before .before .before .before .before .before .before .before .before .before .expand .ensures .size
+  -- The state before it
+  searching : let a = begin .args in
+      let l = loop .loop in
+      Searching (a .task .streams) (a .task .width) (a .task .clip) (a .numbers .now) (a .task .allowance) (l .parent)
+      (below (vectorFor (a .task) (a .numbers .now)) (a .task .allowance) (a .node .level) (a .node .bits) (a .node .partial)
+      (keptOf (a .kept .count) false (takenIn (a .kept .label) (a .kept .best) (a .minima .now)))) (l .tried) (l .keys)
+      (keptOf (l .k .count) (l .k .stopped) (takenIn (l .k .label) (l .k .best) (l .minima))) (limitsOf (l .minima))
+  searching = loop .loop .inv .5
 
-  -- as many at least as the node's places
-  keys-wide : keyCount (begin .args .task .width) ≤ length (c .next-child .last .1 .1 .0)
-  keys-wide = keys-room (begin .pre .1 .0) (node .if1 .left) (c .next-child .last .1 .1 .0) (omega (arith, keys-length, begin .pre .1 .4))
+  more : loop .loop .tried < 2 ^ begin .args .task .width
+  more = omega (arith, loop .loop .inv .0, c .before .before .before .before .loop-test .taken)
 
-  -- and those behind them are enough for the levels below
-  left : c .next-child .result .level * keyCount (begin .args .task .width)
-      ≤ length (c .next-child .last .1 .1 .0) - keyCount (begin .args .task .width)
-  left =
-      keys-left (begin .pre .1 .0) (node .if1 .left) (c .next-child .ensures .inside) (c .next-child .last .1 .1 .0) (omega (arith, keys-length, begin .pre .1 .4))
+  -- The child that it takes
+  abbrev next : Node
+  next = nextOf (begin .args .task .streams) (begin .args .task .width) (loop .loop .parent) (loop .loop .k .label) (limitsOf (loop .loop .minima)) (loop .loop .keys)
 
--- The turn at which the verdict is known
-turn : (t : ℕ) (g : walk-lts.After-judge (calls t) (walk-at t) walk.Post Inv μ-loop)
-    → let c = g .before .before .before .before .before in
-    let a = begin t c .args in
-    let l = loop t c .loop in
-    Turn (a .task .streams) (a .task .width) (a .task .clip) (a .numbers .now) (a .task .allowance) (a .node .level) (a .node .bits)
-    (a .node .partial) (keptOf (a .kept .count) false (takenIn (a .kept .label) (a .kept .best) (a .minima .now))) (limitsOf (a .minima .now))
-    (l .tried) (l .keys) (keptOf (l .k .count) (l .k .stopped) (takenIn (l .k .label) (l .k .best) (l .minima))) (limitsOf (l .minima))
-    (c .next-child .last .1 .1 .0) (c .next-child .result .level) (c .next-child .result .bits) (c .next-child .result .partial)
-    (g .judge .result)
-turn t g =
-    let c = g .before .before .before .before .before in
-    let l = loop t c in
-    let a = begin t c .args in
-    let k = l .loop .k in
-    turn-of (begin t c .pre .1 .0) (node t c .if1 .left) (l .loop .inv .4) _ (l .loop .inv .0) (c .before .before .loop-test .taken)
-    (c .next-child .ensures) _
-    (g .judge .ensures
-    ∙ ap
-    (λ (limits : List ℕ).
-    verdictBy (a .task .streams) (a .task .width) (k .count) (k .label) (k .best) limits (a .task .allowance) (a .node .level)
-    (c .next-child .result .partial) (c .next-child .result .level) (c .next-child .result .bits)) (limits-part (l .loop .minima)))
+  -- The keys after it
+  abbrev after : List ℕ
+  after = c .advance .last .1 .1 .1 .1 .1 .1 .1 .0
+
+  after-length : length after ≡ length (loop .loop .keys)
+  after-length = c .advance .kept .1 .1 .1 .1 .1 .1 .1 .0
+
+  -- What it came to
+  abbrev CameTo : Turn → Type 0
+  CameTo r = Advanced (begin .args .task) (begin .args .numbers .now) (loop .loop .parent) (loop .loop .k) (limitsOf (loop .loop .minima)) (loop .loop .keys) after r
+
+  came-to : CameTo (c .advance .result)
+  came-to =
+      subst (λ (limits : List ℕ). Advanced (begin .args .task) (begin .args .numbers .now) (loop .loop .parent) (loop .loop .k) limits (loop .loop .keys) after (c .advance .result))
+      (limits-part (loop .loop .minima)) (c .advance .ensures)
+
+  answers : (r : Turn) → c .advance .result ≡ r → CameTo r
+  answers r e = subst CameTo e came-to
+
+  -- One more can be counted
+  countable : loop .loop .k .count < begin .args .task .allowance → loop .loop .k .count < 2 ^ 32 - 1
+  countable h = omega (arith, begin .good .0 .1 .1 .1 .0, h)
+
+  -- The keys of the levels below are behind the node's own
+  wide : keyCount (begin .args .task .width) ≤ length after
+  wide =
+      room-for (loop .loop .parent .level) (begin .args .task .width) (searching .inner) (length after)
+      (omega (arith, searching .room, after-length))
+
+  abbrev placed : ℕ
+  placed = c .before .before .before .before .before .before .before .key-places .result
+
+  places-are : placed ≡ keyCount (begin .args .task .width)
+  places-are = loop .loop .inv .1
+
+  abbrev lower : List ℕ
+  lower = take (length after - placed) (drop placed after)
+
+  lower-is : lower ≡ behind (begin .args .task .width) after
+  lower-is = ap (λ (x : ℕ). take (length after - x) (drop x after)) places-are
+
+-- The child is counted, and some of its own children, and nothing is searched below it: what is kept then
+module _ (t : ℕ) (c : walk-lts.After-counted-with (calls t) (walk-at t) walk.Post Inv μ-loop) where
+  abbrev counting : walk-lts.After-advance (calls t) (walk-at t) walk.Post Inv μ-loop
+  counting = c .before .before .before .before .before .before
+
+  abbrev many : ℕ
+  many = c .before .before .more .given .0 .0
+
+  over : CameTo t counting (Left many)
+  over = answers t counting (Left many) (c .before .before .more .given .1)
+
+  abbrev counted : Kept
+  counted =
+      keptOf (c .counted-with .result .count) (c .counted-with .result .stopped)
+      (takenIn (c .counted-with .result .label) (c .counted-with .result .best) (loop t counting .loop .minima))
+
+  same-taken : counted .taken ≡ takenIn (loop t counting .loop .k .label) (loop t counting .loop .k .best) (loop t counting .loop .minima)
+  same-taken =
+      let e = c .counted-with .ensures in
+      ap₂ (λ (x y : ℕ). takenIn x y (loop t counting .loop .minima)) (e .2) (e .3)
+
+  counted-found : let a = begin t counting .args in
+      let l = loop t counting .loop in
+      let n = next t counting in
+      counted ≡ below (vectorFor (a .task) (a .numbers .now)) (a .task .allowance) (n .level) (n .bits) (n .partial)
+      (keptOf (l .k .count + 1) false (takenIn (l .k .label) (l .k .best) (l .minima)))
+  counted-found =
+      let e = c .counted-with .ensures in
+      (λ j. keptOf (e .0 j) (e .1 j) (same-taken j))
+      ∙ left (searching t counting) (more t counting) (over .0 .took) (over .0 .passes) (over .0 .more) (over .1)
+
+-- The child is to be searched: what the turn says of it
+module _ (t : ℕ) (c : walk-lts.After-child (calls t) (walk-at t) walk.Post Inv μ-loop) where
+  abbrev turned : walk-lts.After-advance (calls t) (walk-at t) walk.Post Inv μ-loop
+  turned = c .before .before .before .before
+
+  entered : CameTo t turned (Enter (c .child .given .0 .0))
+  entered = answers t turned (Enter (c .child .given .0 .0)) (c .child .given .1)
+
+-- and it was searched: what is kept then
+module _ (t : ℕ) (c : walk-lts.After-walk (calls t) (walk-at t) walk.Post Inv μ-loop) where
+  abbrev entry : walk-lts.After-child (calls t) (walk-at t) walk.Post Inv μ-loop
+  entry = c .before .before .before .before .before
+
+  abbrev kept : Kept
+  kept =
+      keptOf (c .walk .result .count) (c .walk .result .stopped)
+      (takenIn (c .walk .result .label) (c .walk .result .best) (c .walk .last .1 .1 .1 .1 .1 .1 .0))
+
+  found : let a = begin t (turned t entry) .args in
+      let l = loop t (turned t entry) .loop in
+      let n = next t (turned t entry) in
+      kept ≡ below (vectorFor (a .task) (a .numbers .now)) (a .task .allowance) (n .level) (n .bits) (n .partial)
+      (keptOf (l .k .count + 1) false (takenIn (l .k .label) (l .k .best) (l .minima)))
+  found =
+      let a = begin t (turned t entry) .args in
+      let l = loop t (turned t entry) .loop in
+      let h = c .before .before .before .counted .ensures in
+      rw (h .0, h .2, h .3) at (c .walk .ensures .0)
+      ∙ ap
+      (λ (n : Node).
+      below (vectorFor (a .task) (a .numbers .now)) (a .task .allowance) (n .level) (n .bits) (n .partial)
+      (keptOf (l .k .count + 1) false (takenIn (l .k .label) (l .k .best) (l .minima)))) (entered t entry .1)
+
+  -- The keys of the node's children are as they were
+  abbrev keysThen : List ℕ
+  keysThen =
+      putMid (placed t (turned t entry)) (length (after t (turned t entry)) - placed t (turned t entry)) (after t (turned t entry))
+      (c .walk .last .1 .1 .1 .1 .1 .1 .1 .0)
+
+  then-length : length keysThen ≡ length (after t (turned t entry))
+  then-length =
+      same-len-mid (placed t (turned t entry)) (length (after t (turned t entry)) - placed t (turned t entry)) (after t (turned t entry)) (c .walk .last .1 .1 .1 .1 .1 .1 .1 .0)
+      (c .walk .kept .1 .1 .1 .1 .1 .1 .1 .0)
+
+  then-is : let a = turned t entry in
+      let q = begin t a .args .task .width in
+      keysThen ≡ putMid (keyCount q) (length (after t a) - keyCount q) (after t a) (c .walk .last .1 .1 .1 .1 .1 .1 .1 .0)
+  then-is =
+      ap (λ (x : ℕ). putMid x (length (after t (turned t entry)) - x) (after t (turned t entry)) (c .walk .last .1 .1 .1 .1 .1 .1 .1 .0))
+      (places-are t (turned t entry))
 
 pub +walk-spec : {M : Type 1} → statement M
 +walk-spec = close μ-walk λ t. walk-lts.spec (calls t) (walk-at t) walk.Post Inv μ-loop
-    (λ c κs. let s = c .before .before .before .before .before in let w = s .pre .1 .0 in (w .asked, partial-few w, w .lowest, s .pre .1 .3))
+    (λ c κs. let s = c .before .before .before .before .before in let w = s .pre .1 .0 in (w .node .asked, partial-few (w .node), w .lowest, s .pre .1 .3))
     (λ c. c .before .before .take-leaf .ensures .2 ∙ sym (c .before .before .before .before .before .before .before .before .pre .1 .3))
-    (λ c. let s = c .before .before .before .before .before .before .before .before in let w = s .pre .1 .0 in let r = c .before .before .take-leaf .ensures in
-    (r .0 ∙ leaf-noted w _ (c .before .before .before .before .if1 .taken) _ _ (s .pre .1 .1), r .1, r .2))
-    (λ c. omega (arith, c .before .before .before .before .pre .1 .3))
-    (λ c. omega (arith, c .before .before .before .before .before .pre .1 .3))
-    (λ c. le-refl _)
-    (λ c κs. let s = c .before .before .before .before .before .before .before in let w = s .pre .1 .0 in let inner = c .before .before .before .if1 .left in
-    (w .asked .vector, s .pre .1 .2, omega arith, w .inside, omega (arith, partial-few w), keys-room w inner (s .args .keys .now) (s .pre .1 .4), rw (limits-part (s .args .minima .now)) (limits-whole t s), w .lowest, s .pre .1 .5))
-    (λ c. refl)
-    (λ c. c .before .before .before .expand .ensures .size)
-    (λ c. let s = c .before .before .before .before .before .before .before .before .before .before .before in let w = s .pre .1 .0 in
-    (shut w (c .before .before .before .before .before .before .before .if1 .left) _ (rw (limits-part (s .args .minima .now)) at (c .before .before .before .expand .ensures .shut (not-true _ (c .if2 .taken)))) _ _ (s .pre .1 .1), w .limited, s .pre .1 .3))
-    (λ c. omega (arith, c .before .before .before .before .before .before .before .before .before .before .before .before .pre .1 .0 .asked .vector .bits))
-    (λ c. search needs)
-    (λ c. omega (arith, c .before .before .before .before .before .before .before .before .before .before .before .before .before .before .pre .1 .0 .asked .vector .bits))
-    (λ c. let s = c .before .before .before .before .before .before .before .before .before .before .before .before .before .before in omega (arith, children-are t s, rows-are t s, places-few (s .pre .1 .0)))
-    (λ c. let s = c .before .before .before .before .before .before .before .before .before .before .before .before .before .before in let w = s .pre .1 .0 in let e = c .before .before .before .before .before .before .expand .ensures in let filled = not-false _ (c .before .before .before .if2 .left) in (
-      children-are t s,
-      omega (arith, children-are t s, rows-are t s),
+    (λ c. let s = c .before .before .before .before .before .before .before .before in let r = c .before .before .take-leaf .ensures in
+    (r .0 ∙ leaf-noted (s .pre .1 .0 .node) _ _ (c .before .before .before .before .if1 .taken) _ _ (s .pre .1 .1), r .1, r .2))
+    (λ c κs. c .before .before .before .before .pre .1 .0 .node .asked .vector .bits)
+    (λ c. omega (arith, c .before .before .before .before .before .before .pre .1 .0 .node .asked .vector .bits))
+    (λ c. let s = c .before .before .before .before .before .before in let w = s .pre .1 .0 in let inner : 0 < s .args .node .level = omega (arith, c .before .before .if1 .left) in (
+      one-shifted (s .args .task .width) (omega (arith, w .node .asked .vector .bits)),
+      c .before .key-places .ensures,
       s .pre .1 .3,
       refl,
-      start w (c .before .before .before .before .before .before .before .before .before .before .if1 .left) _ _ (omega (arith, e .size, s .pre .1 .4)) (e .keys filled) (e .rows filled) _ _ (s .pre .1 .1),
+      refl,
+      start (w .node) inner _ _ (w .lowest) (w .limited) (w .opposed) _ _ (w .room) (s .pre .1 .5 inner) _ _ (s .pre .1 .1),
     ))
-    (λ c κs. let s = c .before .before .before .before .before .before .before .before .before .before .before .before .before .before .before .before .before in let w = s .pre .1 .0 in let inner = c .before .before .before .before .before .before .before .before .before .before .before .before .before .if1 .left in
-    (w .asked .vector .bits, c .before .before .loop .inv .4 .rows, omega arith, w .inside, chosen-few w inner, node-placed w inner))
-    (λ c. omega (arith, c .before .before .before .before .before .loop .inv .2))
-    (λ c. omega (arith, c .before .before .before .before .before .before .loop .inv .2))
+    (λ c. omega (arith, c .before .loop .inv .2))
+    (λ c. omega (arith, c .before .before .loop .inv .2))
     (λ c. le-refl _)
-    (λ c κs. let n = c .before .before .before .before in let w = begin t n .pre .1 .0 in let m = loop t n .loop .minima in
-    (w .asked .vector .streams, w .asked .vector .bits, w .inside, omega (arith, n .next-child .ensures .inside, w .inside), rw (limits-part m) (limits-length m ∙ omega (arith, loop t n .loop .inv .2))))
+    (λ c κs. let l = c .before .before .before .before in let s = c .before .before .before .before .before .before .before .before .before .before .before in let h = l .loop .inv .5 in
+    subst (λ (limits : List ℕ). AdvanceAsked (s .args .task) (s .args .points .now) (s .args .numbers .now) (s .args .tables .now) (l .loop .parent) (l .loop .k) limits (l .loop .keys))
+    (sym (limits-part (l .loop .minima)))
+    (record {
+      child = child-in h (omega (arith, l .loop .inv .0, c .before .before .before .loop-test .taken));
+      tabled = s .pre .1 .2;
+      pointed = s .pre .1 .4;
+      limited = limits-asked (h .node) _ _ (h .limited);
+      next = next-asked h;
+      lowest = h .lowest;
+      room = h .room;
+    }))
     (λ c. c .match .keys1)
-    (λ c. c .before .before .before .before .before .before .before .before .before .before .loop .inv .2 ∙ sym (c .before .before .before .before .before .before .before .before .before .before .before .before .before .before .before .before .before .before .before .before .before .before .before .before .before .pre .1 .3))
-    (λ c. keys-length t (c .before .before .before .before .before .before .before))
-    (λ c. let e = ended (turn t (c .before .before)) (c .enum-told .given .1) in (e .0, e .1, c .before .before .before .before .before .before .before .before .before .before .loop .inv .2))
+    (λ c. let a = c .before .before .before .before in loop t a .loop .inv .2 ∙ sym (begin t a .pre .1 .3))
+    (λ c. let a = c .before .before .before .before in after-length t a ∙ loop t a .loop .inv .3)
+    (λ c. let a = c .before .before .before .before in
+    (ended (searching t a) (more t a) (answers t a Ended (c .enum-told .given .1)), searching t a .limited, loop t a .loop .inv .2))
     (λ c. c .match .keys2)
     (λ c κs. search needs)
-    (λ c. c .before .before .before .before .before .before .before .before .before .before .before .loop .inv .2 ∙ sym (c .before .before .before .before .before .before .before .before .before .before .before .before .before .before .before .before .before .before .before .before .before .before .before .before .before .before .pre .1 .3))
-    (λ c. keys-length t (c .before .before .before .before .before .before .before .before))
-    (λ c. let h = c .halted .ensures in let e = halts (turn t (c .before .before .before)) (c .before .enum-told2 .given .1) in
-    (rw (h .0, h .1, h .2, h .3) (e .0), rw (h .2, h .3) (e .1), c .before .before .before .before .before .before .before .before .before .before .before .loop .inv .2))
+    (λ c. let a = c .before .before .before .before .before in loop t a .loop .inv .2 ∙ sym (begin t a .pre .1 .3))
+    (λ c. let a = c .before .before .before .before .before in after-length t a ∙ loop t a .loop .inv .3)
+    (λ c. let a = c .before .before .before .before .before in let h = c .halted .ensures in let r = answers t a Stop (c .before .enum-told2 .given .1) in
+    (rw (h .0, h .1, h .2, h .3) (halts (searching t a) (more t a) (r .0) (r .1)), rw (h .2, h .3) (searching t a .limited), loop t a .loop .inv .2))
     (λ c. c .match .keys3)
-    (λ c κs. omega (arith, c .before .before .before .before .before .before .before .before .before .before .before .before .before .before .before .before .before .before .before .before .before .before .before .before .before .good .0 .1 .1 .1 .0, counts (turn t (c .before .before)) (c .enum-told3 .given .1)))
-    (λ c. omega (arith, c .before .before .before .before .before .before .before .before .before .before .before .before .loop .inv .1, places-few (c .before .before .before .before .before .before .before .before .before .before .before .before .before .before .before .before .before .before .before .before .before .before .before .before .before .before .before .pre .1 .0)))
-    (λ c. rw (c .before .before .before .before .before .before .before .before .before .before .before .before .loop .inv .1) (keys-wide t (c .before .before .before .before .before .before .before .before .before)))
-    (λ c. rw (c .before .before .before .before .before .before .before .before .before .before .before .before .loop .inv .1) (keys-wide t (c .before .before .before .before .before .before .before .before .before)))
+    (λ c κs. search needs)
+    (λ c. let a = counting t (c .before) in loop t a .loop .inv .2 ∙ sym (begin t a .pre .1 .3))
+    (λ c. let a = counting t (c .before) in after-length t a ∙ loop t a .loop .inv .3)
+    (λ c. let w = c .before in let a = counting t w in let n = over t w .0 in
+    (stops (searching t a) (more t a) (n .took) (n .passes) (n .more) (counted t w) (counted-found t w) (c .if2 .taken), rw (same-taken t w) (searching t a .limited), loop t a .loop .inv .2))
+    (λ c. c .match .keys4)
+    (λ c κs. countable t (c .before .before .before .before .before) (entered t (c .before) .0 .more))
+    (λ c. let a = c .before .before .before .before .before .before .before in omega (arith, loop t a .loop .inv .1, places-few (searching t a .node)))
+    (λ c. let a = c .before .before .before .before .before .before .before in rw (loop t a .loop .inv .1) (wide t a))
+    (λ c. let a = c .before .before .before .before .before .before .before in rw (loop t a .loop .inv .1) (wide t a))
     (λ c. le-refl _)
-    (λ c κs. let n = c .before .before .before .before .before .before .before .before .before .before in let f = turn t (c .before .before .before .before .before) in let h = c .before .before .counted .ensures in let s = begin t n in (
-      omega (arith, s .pre .0, f .inner, n .next-child .ensures .inside),
+    (λ c κs. let e = c .before .before .before .before in let a = turned t e in let s = begin t a in let l = loop t a .loop in let h = searching t a in let r = entered t e in let k = c .before .before .counted .ensures in (
+      omega (arith, s .pre .0, l .inv .4, h .inner, ap (λ (n : Node). n .level) (r .1)),
       (
-        rw (h .2, h .3) (child-asked f),
-        h .1 ∙ f .searching .running,
+        subst (λ (n : Node). NodeAsked (s .args .task .streams) (s .args .task .width) (s .args .task .clip) (s .args .numbers .now) n (takenIn (c .before .before .counted .result .label) (c .before .before .counted .result .best) (l .minima)) (limitsOf (l .minima)) (lower t a)) (sym (r .1))
+            (rw (k .2, k .3)
+            (subst (λ (keys : List ℕ). NodeAsked (s .args .task .streams) (s .args .task .width) (s .args .task .clip) (s .args .numbers .now) (next t a) (takenIn (l .k .label) (l .k .best) (l .minima)) (limitsOf (l .minima)) keys) (sym (lower-is t a))
+            (child-asked h (more t a) (r .0 .took) (r .0 .passes) (r .0 .more)))),
+        k .1 ∙ h .running,
         s .pre .1 .2,
-        c .before .before .before .before .before .before .before .before .before .before .before .before .before .loop .inv .2,
-        rw (c .before .before .before .before .before .before .before .before .before .before .before .before .before .loop .inv .1) (omega (arith, left t n, part-length (keyCount (s .args .task .width)) (n .next-child .last .1 .1 .0))),
-        s .pre .1 .5,
+        l .inv .2,
+        s .pre .1 .4,
+        λ inner.
+            subst (λ (n : Node). Filled (s .args .task .streams) (s .args .task .width) (s .args .numbers .now) n (lower t a)) (sym (r .1))
+            (subst (λ (keys : List ℕ). Filled (s .args .task .streams) (s .args .task .width) (s .args .numbers .now) (next t a) keys) (sym (lower-is t a))
+            (r .2 (omega (arith, ap (λ (n : Node). n .level) (r .1))))),
       ),
     ))
-    (λ c. c .before .before .before .before .before .walk .ensures .2 ∙ sym (c .before .before .before .before .before .before .before .before .before .before .before .before .before .before .before .before .before .before .before .before .before .before .before .before .before .before .before .before .before .before .before .before .before .before .pre .1 .3))
-    (λ c. let n = c .before .before .before .before .before .before .before .before .before .before .before .before .before .before .before .before in let w = placesOf t (begin t n) in let after = n .next-child .last .1 .1 .0 in
-    same-len-mid w (length after - w) after (c .before .before .before .before .before .walk .last .1 .1 .1 .1 .1 .1 .1 .0) (c .before .before .before .before .before .walk .kept .1 .1 .1 .1 .1 .1 .1 .0) ∙ keys-length t n)
-    (λ c. let m = c .before .before .before .before .before .before .before .before .before in let h = c .before .before .before .before .before .before .before .before .counted .ensures in let r = c .before .before .before .before .before .walk .ensures in
-    (stops (turn t (m .before .before)) (m .enum-told3 .given .1) _ (rw (h .0, h .2, h .3) at (r .0)) (c .if3 .taken), r .1, r .2))
-    (λ c. c .match .keys4)
-    (λ c. let f = turn t (c .before) in omega (arith, f .more, kids-few (f .asked)))
-    (λ c. omega (arith, c .before .before .before .before .before .before .before .before .loop-test .taken))
-    (λ c. let f = turn t (c .before) in
+    (λ c. let w = c .before .before .before .before .before in w .walk .ensures .2 ∙ sym (begin t (turned t (entry t w)) .pre .1 .3))
+    (λ c. let w = c .before .before .before .before .before in let a = turned t (entry t w) in then-length t w ∙ after-length t a ∙ loop t a .loop .inv .3)
+    (λ c. let w = c .before .before .before .before .before in let e = entry t w in let a = turned t e in let n = entered t e .0 in
+    (stops (searching t a) (more t a) (n .took) (n .passes) (n .more) (kept t w) (found t w) (c .if3 .taken), w .walk .ensures .1, w .walk .ensures .2))
+    (λ c. omega (arith, c .before .before .before .before .before .walk .ensures .2))
+    (λ c. omega (arith, c .before .before .before .before .before .before .walk .ensures .2))
+    (λ c. le-refl _)
+    (λ c κs. let w = c .before .before .before .before .before .before .before in let a = turned t (entry t w) in let n = searching t a .node in let m = w .walk .last .1 .1 .1 .1 .1 .1 .0 in
+    (n .asked .vector .streams, n .asked .vector .bits, n .inside, rw (limits-part m) (limits-length m ∙ omega (arith, w .walk .ensures .2))))
+    (λ c. c .match .keys5)
+    (λ c. let a = c .before .before .before in omega (arith, more t a, kids-few (searching t a .node)))
+    (λ c. omega (arith, c .before .before .before .before .before .before .before .loop-test .taken))
+    (λ c. let a = c .before .before .before in let l = loop t a .loop in let h = searching t a in
     ⊎-elim
-    (λ x. let n = c .before .before .before .before .before .before in let l = loop t n .loop in let h = x .2 .ensures in let r = x .5 .ensures in
-    let w = placesOf t (begin t n) in let after = n .next-child .last .1 .1 .0 in
-    let many = same-len-mid w (length after - w) after (x .5 .last .1 .1 .1 .1 .1 .1 .1 .0) (x .5 .kept .1 .1 .1 .1 .1 .1 .1 .0) in (
+    (λ x. let w : walk-lts.After-counted-with (calls t) (walk-at t) walk.Post Inv μ-loop = record { before = record { before = record { before = record { before = c .before; match = x .0 }; more = x .1 }; known-told = x .2 }; counted-with = x .3 } in let n = over t w .0 in (
       l .inv .0,
       l .inv .1,
-      rw (x .11) (r .2),
-      rw (x .12) (many ∙ next-length (n .next-child .ensures) ∙ l .inv .3),
-      rw (x .11, x .12, x .13, l .inv .1)
-          (onward f (x .1 .given .1) _ (rw (h .0, h .2, h .3) at (r .0)) (x .10 .left) (r .1) _ (rw (l .inv .1) at many)),
+      rw (x .5) (l .inv .2),
+      rw (x .6) (after-length t a ∙ l .inv .3),
+      rw (x .8) (l .inv .4),
+      rw (x .5, x .6, x .7, x .8) (past h (more t a) (n .took) (n .passes) (n .more) (counted t w) (counted-found t w) (same-taken t w) (x .4 .left)),
     ))
-    (λ x. let n = c .before .before .before .before .before .before in let l = loop t n .loop in
-    (l .inv .0, l .inv .1, rw (x .2) (l .inv .2), rw (x .3) (next-length (n .next-child .ensures) ∙ l .inv .3), rw (x .2, x .3, x .4) (cut f (x .1 .given .1))))
+    (⊎-elim
+    (λ x. let w : walk-lts.After-walk (calls t) (walk-at t) walk.Post Inv μ-loop = record { before = record { before = record { before = record { before = record { before = record { before = record { before = c .before; match = x .0 }; child = x .1 }; known-told2 = x .2 }; counted = x .3 }; walk-arg = x .4 }; walk-arg2 = x .5 }; walk = x .6 } in let s = begin t a in let n = entered t (entry t w) .0 in (
+      l .inv .0,
+      l .inv .1,
+      rw (x .15) (x .6 .ensures .2),
+      rw (x .16) (then-length t w ∙ after-length t a ∙ l .inv .3),
+      rw (x .18) (x .14 .ensures .level-is ∙ l .inv .4),
+      rw (x .15, x .16, x .17, x .18)
+          (subst
+          (λ (keys : List ℕ). Searching (s .args .task .streams) (s .args .task .width) (s .args .task .clip) (s .args .numbers .now) (s .args .task .allowance) (x .14 .result)
+          (below (vectorFor (s .args .task) (s .args .numbers .now)) (s .args .task .allowance) (s .args .node .level) (s .args .node .bits) (s .args .node .partial)
+          (keptOf (s .args .kept .count) false (takenIn (s .args .kept .label) (s .args .kept .best) (s .args .minima .now)))) (l .tried + 1) keys
+          (kept t w) (limitsOf (x .6 .last .1 .1 .1 .1 .1 .1 .0))) (sym (then-is t w))
+          (onward h (more t a) (n .took) (n .passes) (n .more) (kept t w) (found t w) (x .11 .left) (x .6 .ensures .1) _ (ap length (sym (then-is t w)) ∙ then-length t w) _
+          (subst (λ (limits : List ℕ). Renewal (s .args .task .streams) (s .args .task .width) (x .6 .result .label) limits (l .parent) (x .14 .result)) (limits-part (x .6 .last .1 .1 .1 .1 .1 .1 .0)) (x .14 .ensures)))),
+    ))
+    (λ x. let r = answers t a Cut (x .1 .given .1) in (
+      l .inv .0,
+      l .inv .1,
+      rw (x .2) (l .inv .2),
+      rw (x .3) (after-length t a ∙ l .inv .3),
+      rw (x .5) (l .inv .4),
+      rw (x .2, x .3, x .4, x .5) (cut h (more t a) (r .0) (r .1)),
+    )))
     (c .match .came))
-    (λ c. c .before .loop .inv .2 ∙ sym (c .before .before .before .before .before .before .before .before .before .before .before .before .before .before .before .before .pre .1 .3))
-    (λ c. c .before .loop .inv .3 ∙ c .before .before .before .before .before .before .before .before .expand .ensures .size)
-    (λ c. let s = c .before .before .before .before .before .before .before .before .before .before .before .before .before .before .before .before in (
-      done (s .pre .1 .0) (c .before .before .before .before .before .before .before .before .before .before .before .before .if1 .left) (c .before .loop .inv .4) _ (c .before .loop .inv .0) (c .loop-test .left),
-      c .before .loop .inv .4 .limited,
-      c .before .loop .inv .2,
-    ))
+    (λ c. c .before .loop .inv .2 ∙ sym (c .before .before .before .before .before .before .before .before .pre .1 .3))
+    (λ c. c .before .loop .inv .3)
+    (λ c. let l = c .before in (done (l .loop .inv .5) (omega (arith, l .loop .inv .0, c .loop-test .left)), l .loop .inv .5 .limited, l .loop .inv .2))

@@ -1,15 +1,17 @@
--- Where no child can pass, the bounds say so of each; else the keys are the children's partial metrics.
+-- Where no child can pass, the test says so of each; else the keys are the children's partial metrics.
 use Prim.Native.Nat.{ℕ, zero, suc, _-_, _*_, _≤_, _<_, _^_}
-use mathlib.Core.Path.{refl}
+use mathlib.Core.Path.{_≡_, refl, sym}
+use native.Mathlib.Nat.{mod-lt}
 use native.Mathlib.Omega.{arith}
 use borrow.Author.Needs.{needs}
-use borrow.Author.Tests.{not-true, not-false}
+use borrow.Author.Tests.{not-true}
 use lib.ListN.{getD, replicate}
+use lib.Pow.{pow-pos}
 use Rattle.model.specs.Block.{mostBits}
 use Rattle.metric.specs.Parts.{span}
 use Rattle.metric.specs.Rows.{Measured}
-use Rattle.search.proofs.Children.{far-all, shut-asked, cut-all, filled-in}
-use Rattle.search.proofs.Values.{rest-few}
+use Rattle.search.proofs.Children.{entries-are, entries-many, entries-wide, no-children, own-is, all-cut, filled-in}
+use Rattle.search.proofs.Values.{rest-few, room-for}
 use Rattle.search.proofs.expand.Statement.{statement}
 use Rattle.search.proofs.expand.Tie as tie
 
@@ -18,40 +20,81 @@ zeros-small zero i = omega arith
 zeros-small (suc n) zero = omega arith
 zeros-small (suc n) (suc i) = zeros-small n i
 
+-- The start, from where a node with children is known, and from where what remains of y is
+abbrev start : tie.Else1 → tie.Start
+start c = c .before .before .before .before
+
+abbrev node : tie.After-remainder → tie.Else1
+node c = c .before .before .before .before .before .before .before
+
+inner : (c : tie.Else1) → 0 < start c .args .node .level
+inner c = omega (arith, c .if1 .left)
+
+-- Its row
+inside : (c : tie.Else1) → start c .args .node .level - 1 < start c .args .task .streams
+inside c = omega (arith, inner c, start c .pre .inside)
+
 -- The bits behind the node's own stream
 few : (s : tie.Start) → (s .args .task .streams - s .args .node .level) * s .args .task .width ≤ mostBits
-few s = rest-few (s .args .node .level) (s .pre .0)
+few s = rest-few (s .args .node .level) (s .pre .vector)
+
+opens-requires : tie.Need-opens-requires
+opens-requires c κs =
+    let r = c .before in
+    let e = node r in
+    let s = start e in
+    record {
+      vector = s .pre .vector;
+      tabled = s .pre .tabled;
+      inside = inside e;
+      low-re = r .remainder .ensures .1;
+      low-im = r .remainder .ensures .2;
+      low = omega (arith, s .pre .low);
+      stream = entries-many _ _ _ (s .pre .limited) (s .pre .vector .streams) _ (inside e) _ refl;
+      widest = entries-wide _ _ _ (s .pre .limited) (s .pre .vector .streams) _ (inside e) _ refl;
+      symbol = rw (r .before .symbol-at .ensures) (mod-lt _ (pow-pos (s .args .task .width)));
+    }
+
+returns-2 : tie.Need-returns-2
+returns-2 c =
+    let r = c .before .before .before in
+    let e = node r in
+    let s = start e in
+    all-cut (inner e) _ (r .before .before .before .before .before .base-of .ensures) _
+    (entries-are _ _ _ (s .pre .limited) (s .pre .vector .streams) _ (inside e) _ refl) _ (own-is (s .args .task .streams) (s .args .task .width) (s .args .kept .label) (s .args .node) (inner e) _ (r .before .symbol-at .ensures))
+    (c .before .opens .ensures (not-true _ (c .if2 .taken)) (s .args .node .bits) (r .remainder .ensures .0))
 
 -- The parts are measured
-parts : (c : tie.Else1) → let s = c .before .before .before .before .before .before .before in
-    Measured (s .args .task .streams) (s .args .task .width) (s .args .numbers .now) (s .args .node .level - 1) (s .args .node .bits) (c .before .measure .last .1 .1 .1 .1 .1 .1 .0)
-parts c = c .before .measure .ensures .parts (not-false _ (c .if1 .left))
+parts : (c : tie.After-fill-parts)
+    → let s = start (node (c .before .before .before .before .before)) in
+    Measured (s .args .task .streams) (s .args .task .width) (s .args .numbers .now) (s .args .node .level - 1) (s .args .node .bits)
+    (c .fill-parts .last .1 .1 .1 .1 .1 .0)
+parts c =
+    let r = c .before .before .before .before .before in
+    c .fill-parts .ensures (start (node r) .args .node .bits) (r .remainder .ensures .0)
 
 pub expand-spec : {M : Type 1} → statement M
 expand-spec =
     tie.close
     (tie.spec
+    (λ c. no-children (c .if1 .taken))
+    (λ c. search needs)
     (λ c κs. search needs)
-    (λ c κs. omega (arith, c .bounds-of .ensures .best-is, c .before .before .before .pre .7))
-    (λ c κs. let s = c .before .before .before .before .before in (s .pre .0, s .pre .1, s .pre .2, s .pre .3, refl, zeros-small (2 * span), s .pre .4, s .pre .8))
-    (λ c. far-all _ _ _ _ _ _ _ _ _ _ (c .before .before .before .before .bounds-of .ensures) _ (c .before .before .before .bound-of .ensures) (c .before .measure .ensures .far (not-true _ (c .if1 .taken))))
     (λ c. search needs)
-    (λ c. omega (arith, few (c .before .before .before .before .before .before .before .before .before)))
-    (λ c κs. let s = c .before .before .before .before .before .before .before .before .before in (s .pre .0 .bits, omega (arith, few s)))
+    (λ c. let s = start (c .before .before .before .before .before) in omega (arith, few s))
+    (λ c κs. let s = start (c .before .before .before .before .before) in (s .pre .vector .bits, omega (arith, few s)))
     (λ c. search needs)
     (λ c. search needs)
+    (λ c κs. search needs)
     (λ c. search needs)
     (λ c. search needs)
     (λ c. search needs)
     (λ c. search needs)
     (λ c. search needs)
+    opens-requires
+    returns-2
+    (λ c κs. let r = c .before .before .before .before in let s = start (node r) in (s .pre .vector, s .pre .tabled, inside (node r), r .remainder .ensures .1, r .remainder .ensures .2, refl, zeros-small (2 * span)))
+    (λ c κs. let f = c .before .before in let s = start (node (f .before .before .before .before .before)) in
+    (s .pre .vector .bits, omega (arith, s .pre .low), parts f .size, parts f .small, room-for (s .args .node .level) (s .args .task .width) (inner (node (f .before .before .before .before .before))) _ (s .pre .room)))
     (λ c. search needs)
-    (λ c κs. let s = c .before .before .before .before .before .before .before .before .before .before .before .before .before in
-    shut-asked _ _ _ _ _ _ _ (s .args .kept .best) _ (s .args .keys .now) _ (parts (c .before .before .before .before .before .before)) (s .pre .2) (s .pre .3) (s .pre .0 .streams) (s .pre .6) _ refl _ (c .before .before .before .symbol-at .ensures)
-    (s .pre .0 .bits) (omega (arith, s .pre .4)))
-    (λ c. let s = c .before .before .before .before .before .before .before .before .before .before .before .before .before .before .before in
-    cut-all _ _ _ _ _ _ _ _ _ _ _ (parts (c .before .before .before .before .before .before .before .before)) (s .pre .2) (s .pre .3) (s .pre .0 .streams) (s .pre .6) _ refl _ (c .before .before .before .before .before .symbol-at .ensures)
-    (c .before .before .before .before .before .before .before .before .before .before .before .before .bounds-of .ensures) (c .before .shuts .ensures (c .if2 .taken)))
-    (λ c κs. let s = c .before .before .before .before .before .before .before .before .before .before .before .before .before .before .before .before .before in let m = parts (c .before .before .before .before .before .before .before .before .before .before) in (s .pre .0 .bits, omega (arith, s .pre .4), m .size, m .small, s .pre .5))
-    (λ c. search needs)
-    (λ c. filled-in _ _ _ _ _ _ _ _ _ _ _ (parts (c .before .before .before .before .before .before .before .before .before .before .before .before .before)) (c .before .before .fill .ensures)))
+    (λ c. let f = c .before .before .before .before .before in filled-in (parts f) (c .before .before .fill .ensures)))

@@ -10,22 +10,22 @@ use Rattle.search.proofs.Values.{keys-many, root-fresh, root-whole, roo
 use Rattle.search.proofs.search_vector.Statement.{statement}
 use Rattle.search.proofs.search_vector.Tie as tie
 
-walk-requires : tie.Need-walk-requires
-walk-requires c κs =
+begin-requires : tie.Need-begin-requires
+begin-requires c κs =
     let s = c .before .before .before .before .before .before .before .before .before in
     let r = c .before .before .before .before .renew-limits .ensures in
-    (root-asked (s .pre .0) r, refl, c .before .before .before .before .before .before .prepare .ensures, root-whole (s .pre .0) r, le-trans (keys-many (s .pre .0)) (s .pre .2), s .pre .3)
+    (root-asked (s .pre .0) r _ (le-trans (keys-many (s .pre .0)) (s .pre .2)), refl, c .before .before .before .before .before .before .prepare .ensures, root-whole (s .pre .0) r, s .pre .3)
 
 -- What the walk has kept, from nothing
-walked : (c : tie.After-walk)
+walked : (c : tie.After-begin)
     → let s = c .before .before .before .before .before .before .before .before .before .before in
-    keptOf (c .walk .result .count) (c .walk .result .stopped)
-    (takenIn (c .walk .result .label) (c .walk .result .best) (c .walk .last .1 .1 .1 .1 .1 .1 .0))
+    keptOf (c .begin .result .count) (c .begin .result .stopped)
+    (takenIn (c .begin .result .label) (c .begin .result .best) (c .begin .last .1 .1 .1 .1 .1 .1 .0))
     ≡ below (vectorFor (s .args .task) (s .args .numbers .now)) (s .args .task .allowance) (s .args .task .streams) 0 0 (fresh mostBits)
 walked c =
     let s = c .before .before .before .before .before .before .before .before .before .before in
     let t = s .args .task in
-    c .walk .ensures .0
+    c .begin .ensures .0
     ∙ ap (λ (x : Taken). below (vectorFor t (s .args .numbers .now)) (t .allowance) (t .streams) 0 0 (keptOf 0 false x))
     (root-fresh (s .pre .0) (c .before .before .before .before .before .renew-limits .ensures))
 
@@ -33,7 +33,7 @@ write-soft-requires : tie.Need-write-soft-requires
 write-soft-requires c κs =
     let w = c .before .before .before .before .before in
     let s = c .before .before .before .before .before .before .before .before .before .before .before .before .before .before .before in
-    (s .pre .0, end-low (s .pre .0) (s .args .task .allowance) (walked w), w .walk .ensures .2)
+    (s .pre .0, end-low (s .pre .0) (s .args .task .allowance) (walked w), w .begin .ensures .1)
 
 returns : tie.Need-returns
 returns c =
@@ -48,7 +48,7 @@ search-vector-spec =
     (λ c. search needs)
     (λ c κs. (c .before .before .before .before .pre .0, le-refl _, refl))
     (λ c. search needs)
-    walk-requires
+    begin-requires
     (λ c. search needs)
     write-soft-requires
     (λ c. search needs)

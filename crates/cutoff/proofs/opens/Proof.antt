@@ -1,0 +1,192 @@
+-- The nearest distances bound every child's partial metric from below, and an axis's parts with that of the other axis.
+use borrow.Author.Needs.{needs, sfits-of}
+use Prim.Native.Nat.{ℕ, _+_, _-_, _*_, _/_, _%_, _^_, _≤_, _<_}
+use mathlib.Core.Path.{_≡_, sym, _∙_, ap, subst}
+use native.Mathlib.Omega.{arith}
+use lib.Dec.{T}
+use lib.IntN.{ℤ, pos, natAbs}
+use lib.ListN.{getD}
+use lib.Pow.{pow-pos}
+use lib.Signed.{nonNeg}
+use mir.Syntax.{w64}
+use mir.Val.{SFits}
+use mir.Facts.{toZ-ofZ, fits-natAbs}
+use Rattle.integers.proofs.Fits.{sfits-abs}
+use Rattle.model.specs.Block.{mostEntry}
+use Rattle.model.proofs.Numbers.{first-half}
+use Rattle.metric.specs.Parts.{nearestOf}
+use Rattle.metric.specs.Rows.{rowStart}
+use Rattle.metric.specs.Tables.Axis.{real, imaginary}
+use Rattle.metric.proofs.Rows.{row-end, square-few, diagonal-within}
+use Rattle.cutoff.proofs.Halves.{imaginary-lt, columns, masked}
+use Rattle.cutoff.proofs.Near.{square-small, nearIn, reach-asked, all-beyond}
+use Rattle.cutoff.proofs.opens.Statement.{statement}
+use Rattle.cutoff.proofs.opens.Tie as tie
+
+-- The row's place in the numbers
+place : (s : tie.Start)
+    → let m = s .args .shape .streams in
+    (rowStart m (s .args .row) + 1 ≤ m * m) × (m * m ≤ 16)
+place s =
+    let m = s .args .shape .streams in
+    (omega (arith, row-end m (s .args .row) (s .pre .inside)), square-few (s .pre .vector) (s .args .row) (s .pre .inside))
+
+-- What remains
+re-fits : (s : tie.Start) → SFits w64 (s .args .left .re)
+re-fits s = sfits-abs _ (omega (arith, s .pre .low-re))
+
+im-fits : (s : tie.Start) → SFits w64 (s .args .left .im)
+im-fits s = sfits-abs _ (omega (arith, s .pre .low-im))
+
+-- The diagonal entry
+abbrev begin : tie.After-element → tie.Start
+begin c = c .before .before .before
+
+diagonal-fits : (c : tie.After-element) → SFits w64 (c .element .result)
+diagonal-fits c = sfits-of (c .element .ok)
+
+diagonal-is : (c : tie.After-element)
+    → let a = begin c .args in
+    c .element .result ≡ getD (a .numbers .now) (rowStart (a .shape .streams) (a .row)) (pos 0)
+diagonal-is c = c .element .ensures
+
+plain : (c : tie.After-element) → T (nonNeg (c .element .result))
+plain c =
+    let s = begin c in
+    subst (λ (z : ℤ). T (nonNeg z)) (sym (diagonal-is c ∙ s .pre .vector .plain (s .args .row) (s .pre .inside))) tt
+
+cast-diagonal : tie.Need-cast-diagonal
+cast-diagonal c = let f = diagonal-fits c in simp toZ-ofZ (plain c, fits-natAbs tt f)
+
+within : (c : tie.After-element) → natAbs (c .element .result) ≤ mostEntry
+within c =
+    let s = begin c in
+    omega (arith, ap natAbs (diagonal-is c), diagonal-within (s .pre .vector) (s .args .row) (s .pre .inside))
+
+re-asked : tie.Need-nearest-requires
+re-asked c κs =
+    let d = c .before in
+    let s = begin d in
+    let e = diagonal-fits d in
+    let f = re-fits s in
+    simp toZ-ofZ (s .pre .low-re, within d, omega (arith, s .pre .vector .bits))
+
+im-asked : tie.Need-nearest-requires-2
+im-asked c κs =
+    let d = c .before .before .before in
+    let s = begin d in
+    let e = diagonal-fits d in
+    let f = im-fits s in
+    simp toZ-ofZ (s .pre .low-im, within d, omega (arith, s .pre .vector .bits))
+
+-- The nearest distances of both axes
+module _ (c : tie.After-nearest2) where
+  abbrev entry : tie.After-element
+  entry = c .before .before .before .before
+
+  abbrev start : tie.Start
+  start = begin entry
+
+  abbrev near-re : ℕ
+  near-re = c .before .before .nearest .result
+
+  abbrev near-im : ℕ
+  near-im = c .nearest2 .result
+
+  re-is : near-re ≡ nearIn (start .args .shape .streams) (start .args .shape .width) (start .args .numbers .now) (start .args .row) real
+      (start .args .left .re)
+  re-is =
+      let q = start .args .shape .width in
+      let e = diagonal-fits entry in
+      let f = re-fits start in
+      simp toZ-ofZ at (c .before .before .nearest .ensures .0)
+      ∙ ap (λ (d : ℤ). nearestOf (natAbs d) (q - q / 2) (natAbs (start .args .left .re))) (diagonal-is entry)
+
+  im-is : near-im ≡ nearIn (start .args .shape .streams) (start .args .shape .width) (start .args .numbers .now) (start .args .row) imaginary
+      (start .args .left .im)
+  im-is =
+      let q = start .args .shape .width in
+      let e = diagonal-fits entry in
+      let f = im-fits start in
+      simp toZ-ofZ at (c .nearest2 .ensures .0)
+      ∙ ap (λ (d : ℤ). nearestOf (natAbs d) (q / 2) (natAbs (start .args .left .im))) (diagonal-is entry)
+
+  -- The three numbers are small enough to add
+  small : (start .args .partial < 2 ^ 61) × (near-re * near-re < 2 ^ 60) × (near-im * near-im < 2 ^ 60)
+  small = (
+    start .pre .low,
+    square-small near-re (c .before .before .nearest .ensures .1),
+    square-small near-im (c .nearest2 .ensures .1),
+  )
+
+real-asked : tie.Need-axis-opens-requires
+real-asked c κs =
+    let n = c .before .before in
+    let s = start n in
+    let f = re-fits s in
+    simp toZ-ofZ
+    (reach-asked (s .pre) real _ (s .args .left .re) _ (near-re n) _ 0 _ (omega arith) (s .pre .low-re) (re-is n) (omega arith)
+    (omega (arith, small n)) (omega arith) (first-half (s .args .shape .width) (s .args .own) (s .pre .symbol)) (s .pre .widest .real))
+
+imaginary-asked : tie.Need-axis-opens-requires-2
+imaginary-asked c κs =
+    let n = c .before .before .before .before .before in
+    let s = start n in
+    let q = s .args .shape .width in
+    let f = im-fits s in
+    simp toZ-ofZ
+    (rw (masked q (s .args .own) (s .pre .vector .bits))
+    (reach-asked (s .pre) imaginary _ (s .args .left .im) _ (near-im n) _ _ _ (omega arith) (s .pre .low-im) (im-is n) (omega arith)
+    (omega (arith, small n)) (omega arith) (imaginary-lt q (s .args .own)) (s .pre .widest .imaginary)))
+
+returns : tie.Need-returns
+returns c e = let z : _≡_ {A = ℕ} 0 1 = cc in absurd (omega arith)
+
+returns-2 : tie.Need-returns-2
+returns-2 c e = let z : _≡_ {A = ℕ} 0 1 = cc in absurd (omega arith)
+
+returns-3 : tie.Need-returns-3
+returns-3 c e =
+    let o = c .before .before in
+    let l = o .before .before .before in
+    let n = l .before in
+    let s = start n in
+    let q = s .args .shape .width in
+    let f = re-fits s in
+    let g = im-fits s in
+    all-beyond (s .pre) (near-re n) (near-im n) (s .args .base) (re-is n) (im-is n) (l .if1 .left)
+    (simp toZ-ofZ at (o .before .axis-opens .ensures (o .if2 .left)))
+    (simp (toZ-ofZ, masked q (s .args .own) (s .pre .vector .bits)) at (c .axis-opens2 .ensures e))
+
+pub opens-spec : {M : Type 1} → statement M
+opens-spec =
+    tie.close
+    (tie.spec
+    (λ c. search needs)
+    (λ c. search needs)
+    (λ c. search needs)
+    (λ c. let s = c .before .before in omega (arith, place s .0, place s .1))
+    (λ c κs. let s = c .before .before in omega (arith, place s .0, s .pre .vector .room))
+    cast-diagonal
+    re-asked
+    im-asked
+    (λ c. omega (arith, small c))
+    (λ c. omega (arith, small c))
+    (λ c. omega (arith, small c))
+    (λ c. omega (arith, small c))
+    (λ c. omega (arith, small c))
+    returns
+    (λ c. search needs)
+    (λ c. search needs)
+    (λ c. search needs)
+    (λ c. search needs)
+    (λ c.
+    let s = start (c .before) in
+    let q = s .args .shape .width in
+    omega (arith, columns q (s .pre .vector .bits), pow-pos (q / 2)))
+    real-asked
+    returns-2
+    (λ c. search needs)
+    (λ c. search needs)
+    imaginary-asked
+    returns-3)

@@ -1,0 +1,72 @@
+-- Document 02, Point 3: "after its first k children, for every k, those k have their whole increment and the others' places are as before
+-- the pass".
+use Prim.Native.Nat.{ℕ, _+_, _^_, _≤_, _<_}
+use mathlib.Core.Path.{_≡_, refl, sym, _∙_, ap}
+use mathlib.Core.List.{List}
+use native.Mathlib.Nat.{le-refl}
+use native.Mathlib.Omega.{arith}
+use lib.IntN.{ℤ}
+use lib.ListN.{length, getD, set}
+use lib.Seq.{take-at}
+use Rattle.model.specs.Constellation.{Bits, bitsOf}
+use Rattle.model.specs.Metric.{squaredDistance, priorCost, increment}
+use Rattle.model.proofs.Numbers.{length-bitsOf}
+use Rattle.metric.specs.Parts.{childMetric, realIn, imaginaryIn, measuredTo, filled}
+use Rattle.metric.specs.Rows.{rowAt, childBits, childOf, Measured}
+use Rattle.metric.proofs.Filled.{filled-more, filled-length, filled-rest, filled-at}
+
+module _ (q d : ℕ) (axes keys : List ℕ) where
+  -- Before the first child nothing is changed
+  pub pass-none : measuredTo q d axes 0 keys ≡ keys
+  unfolding measuredTo filled
+  pass-none = refl
+
+  pub pass-length : (k : ℕ) → length (measuredTo q d axes k keys) ≡ length keys
+  unfolding measuredTo
+  pass-length k = filled-length _ k keys
+
+  -- After the first k children the others' places are as before the pass
+  pub pass-others : (k s : ℕ) → k ≤ s → getD (measuredTo q d axes k keys) s 0 ≡ getD keys s 0
+  unfolding measuredTo
+  pass-others k s h = filled-rest _ k keys s 0 h
+
+  -- and theirs hold the sum of d and the parts of their axis labels
+  pub pass-sums : (k s : ℕ) → s < k → k ≤ length keys
+      → getD (measuredTo q d axes k keys) s 0 ≡ childMetric q d (realIn axes) (imaginaryIn axes) s
+  unfolding measuredTo
+  pass-sums k s h room = filled-at _ k keys s 0 h room
+
+  -- At a node of partial metric d whose parts the array has
+  module _ (m : ℕ) (numbers : List ℤ) (level node : ℕ) (measured : Measured m q numbers level node axes) where
+    -- One child more writes that child's place and no other
+    pub pass-next : (k : ℕ) → k < 2 ^ q
+        → measuredTo q d axes (k + 1) keys
+        ≡ set (measuredTo q d axes k keys) k (d + increment q (rowAt m q numbers level) (childBits m q level node k))
+    unfolding measuredTo childOf
+    pass-next k h = sym (filled-more _ k keys) ∙ ap (set (filled _ k keys) k) (sym (measured .child d k h))
+
+    module _ (room : 2 ^ q ≤ length keys) where
+      -- After the first k children each of these has d and its whole increment
+      pub pass-measured : (k s : ℕ) → k ≤ 2 ^ q → s < k
+          → getD (measuredTo q d axes k keys) s 0 ≡ d + increment q (rowAt m q numbers level) (childBits m q level node s)
+      unfolding childOf
+      pass-measured k s few h = pass-sums k s h (omega arith) ∙ sym (measured .child d s (omega arith))
+
+      -- which is its squared distance and its prior cost
+      pub pass-parts : (k s : ℕ) → k ≤ 2 ^ q → s < k
+          → let row = rowAt m q numbers level in
+          getD (measuredTo q d axes k keys) s 0
+          ≡ d + (squaredDistance q row (childBits m q level node s) + priorCost (row .priors) (bitsOf q s))
+      unfolding increment
+      pass-parts k s few h =
+          let row = rowAt m q numbers level in
+          pass-measured k s few h
+          ∙ ap (λ (own : Bits). d + (squaredDistance q row (childBits m q level node s) + priorCost (row .priors) own))
+          (take-at (bitsOf q s) _ q (length-bitsOf q s))
+
+      -- After all children each has its partial metric, and the places behind them are as before the pass
+      pub pass-all : (after : List ℕ) → after ≡ measuredTo q d axes (2 ^ q) keys
+          → ((s : ℕ) → s < 2 ^ q → getD after s 0 ≡ childOf m q numbers level node d s)
+          × ((s : ℕ) → 2 ^ q ≤ s → getD after s 0 ≡ getD keys s 0)
+      unfolding childOf
+      pass-all after e = rw e (λ s h. pass-measured (2 ^ q) s (le-refl _) h, λ s h. pass-others (2 ^ q) s h)

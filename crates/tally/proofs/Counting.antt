@@ -1,0 +1,122 @@
+-- Children counted one by one, or a whole row of them left out; and what a row's limits are.
+use Prim.Native.Nat.{ℕ, zero, suc, _+_, _-_, _*_, _/_, _%_, _^_, _≤_, _<_, max}
+use mathlib.Core.Path.{_≡_, refl, sym, _∙_, ap, ap₂}
+use mathlib.Core.Bool.{Bool, true, false, cond}
+use mathlib.Core.List.{List}
+use mathlib.Core.Logic.{⊎-elim}
+use native.Mathlib.Nat.{eq-or-lt-of-le, add-zero, mul-add-div-right, div-eq-of-lt, mul-add-mod-self-right, mod-eq-of-lt, mod-lt, suc-mul}
+use native.Mathlib.Numerals.{add-one}
+use native.Mathlib.Omega.{arith}
+use borrow.Author.Tests.{lt-ltb, le-ltb}
+use lib.Bits.{bitXor, xor-lt, xor-shr, xor-mod}
+use lib.Dec.{ltb}
+use lib.IntN.{ℤ}
+use lib.ListN.{getD}
+use lib.Pow.{pow-pos, pow-mono}
+use Rattle.model.specs.Block.{mostWidth}
+use Rattle.model.proofs.Numbers.{first-half}
+use Rattle.metric.specs.Parts.{axisWidth, span}
+use Rattle.metric.specs.Tables.Axis.{real, imaginary}
+use Rattle.metric.proofs.Grid.{row-room}
+use Rattle.pruning.specs.Counted.{passCount}
+use Rattle.pruning.proofs.Counted.{count-most}
+use Rattle.reach.specs.Reach.{entryPlace, streamReach}
+use Rattle.siblings.specs.Rows.{rowCount, columnCount}
+use Rattle.siblings.proofs.Rows.{row-least-le}
+use Rattle.tally.specs.Tally.{CountedTo}
+use Rattle.tally.specs.Family.{wideIn, passesIn, IdleAt, IdleIn, ChildCounted, RowAsked}
+use Rattle.tally.specs.declared.Family.{Family}
+
+pub never : true ≡ false → ⊥
+never e = let z : _≡_ {A = ℕ} 0 1 = cc in omega arith
+
+module _ {pass : ℕ → Bool} {Idle : ℕ → Type 0} where
+  pub counted-start : CountedTo pass Idle 0 0
+  unfolding passCount
+  counted-start = record { count-is = refl; idle = λ s h. absurd (omega arith) }
+
+  -- Never more than there are
+  pub counted-few : {n count : ℕ} → CountedTo pass Idle n count → count ≤ n
+  counted-few {n} c = omega (arith, c .count-is, count-most pass n)
+
+  -- One more
+  pub counted-more : {n count : ℕ} → CountedTo pass Idle n count → (next : ℕ) → next ≡ count + cond (pass n) 1 0
+      → (pass n ≡ true → Idle n) → CountedTo pass Idle (n + 1) next
+  unfolding passCount
+  counted-more {n} c next e idle = record {
+    count-is = e ∙ ap (λ (x : ℕ). x + cond (pass n) 1 0) (c .count-is) ∙ sym (ap (passCount pass) (add-one n));
+    idle = λ s h.
+        let k : s ≤ n = omega arith in
+        ⊎-elim (λ (d : s ≡ n). rw d idle) (λ (l : s < n). c .idle s l) (eq-or-lt-of-le k);
+  }
+
+  -- Some that fail
+  pub counted-past : {n count : ℕ} (k : ℕ) → CountedTo pass Idle n count → ((i : ℕ) → i < k → pass (n + i) ≡ false)
+      → CountedTo pass Idle (n + k) count
+  counted-past {n} {count} zero c fail = rw (add-zero n) c
+  counted-past {n} {count} (suc k) c fail =
+      let before = counted-past k c (λ i h. fail i (omega arith)) in
+      let last : pass (n + k) ≡ false = fail k (omega arith) in
+      let e : n + suc k ≡ n + k + 1 = omega arith in
+      rw e (counted-more before count (rw last (omega arith)) (λ t. absurd (never (sym t ∙ last))))
+
+-- The limits of a row and a column
+pub row-limits : (q : ℕ) (limits : List ℕ) (j own a b : ℕ) → b < columnCount q
+    → streamReach q limits j (bitXor (a * columnCount q + b) own)
+    ≡ max (getD limits (entryPlace j real + bitXor a (own / 2 ^ (q / 2))) 0) (getD limits (entryPlace j imaginary + bitXor b (own % 2 ^ (q / 2))) 0)
+unfolding streamReach
+row-limits q limits j own a b h =
+    let s = a * columnCount q + b in
+    let d : s / 2 ^ (q / 2) ≡ a = omega (arith, mul-add-div-right (pow-pos (q / 2)) a b, div-eq-of-lt h) in
+    let r : s % 2 ^ (q / 2) ≡ b = mul-add-mod-self-right a (2 ^ (q / 2)) b ∙ mod-eq-of-lt h in
+    ap₂ (λ (x y : ℕ). max (getD limits (entryPlace j real + x) 0) (getD limits (entryPlace j imaginary + y) 0))
+    (xor-shr s own (q / 2) ∙ ap (λ (x : ℕ). bitXor x (own / 2 ^ (q / 2))) d)
+    (xor-mod s own (q / 2) ∙ ap (λ (x : ℕ). bitXor x (own % 2 ^ (q / 2))) r)
+
+-- A child by its own test
+module _ (f : Family) (numbers : List ℤ) (limits : List ℕ) (wide d s count : ℕ) where
+  pub child-fails : max (f .base) wide ≤ d → ChildCounted f numbers limits wide d s count count
+  child-fails h =
+      let e : ltb d (max (f .base) wide) ≡ false = le-ltb d (max (f .base) wide) h in
+      record { count-is = rw e (omega arith); idle = λ t. absurd (never (sym t ∙ e)) }
+
+  pub child-counts : d < max (f .base) wide → IdleAt f numbers limits wide d s → ChildCounted f numbers limits wide d s count (count + 1)
+  child-counts h idle = record { count-is = rw (lt-ltb d (max (f .base) wide) h); idle = λ t. idle }
+
+-- and by its place among its siblings
+pub counted-child : (f : Family) (numbers : List ℤ) (limits keys : List ℕ) {n count : ℕ} (next wide : ℕ)
+    → CountedTo (passesIn f limits keys) (IdleIn f numbers limits keys) n count → wide ≡ wideIn f limits n
+    → ChildCounted f numbers limits wide (getD keys n 0) n count next
+    → CountedTo (passesIn f limits keys) (IdleIn f numbers limits keys) (n + 1) next
+counted-child f numbers limits keys next wide before e child =
+    let is = rw e at child in
+    counted-more before next (is .count-is) (is .idle)
+
+-- or with its whole row, where no key of it is below any limit
+pub row-past : {f : Family} {points numbers tables : List ℤ} {limits keys : List ℕ} {a before : ℕ}
+    → RowAsked f points numbers tables limits keys a before → f .cap ≤ getD keys (2 ^ f .shape .width + a) 0
+    → CountedTo (passesIn f limits keys) (IdleIn f numbers limits keys) ((a + 1) * columnCount (f .shape .width)) before
+row-past {f} {keys = keys} {a = a} asked h =
+    let q = f .shape .width in
+    let e : (a + 1) * columnCount q ≡ a * columnCount q + columnCount q = omega (arith, suc-mul a (columnCount q)) in
+    rw e
+    (counted-past (columnCount q) (asked .counted)
+    (λ i l.
+    le-ltb (getD keys (a * columnCount q + i) 0) _
+    (omega (
+      arith,
+      asked .low,
+      asked .capped (a * columnCount q + i) (omega (arith, row-room q a (asked .row))),
+      row-least-le q keys (asked .rows) a i (asked .row) l,
+    ))))
+
+-- The places of a row's and a column's entries
+pub real-entry : (q a own : ℕ) → q ≤ mostWidth → a < rowCount q → own < 2 ^ q → bitXor a (own / 2 ^ (q / 2)) < span
+real-entry q a own few h l =
+    let half : q - q / 2 ≤ axisWidth = omega arith in
+    omega (arith, xor-lt (q - q / 2) a (own / 2 ^ (q / 2)) h (first-half q own l), pow-mono half)
+
+pub imaginary-entry : (q b own : ℕ) → q ≤ mostWidth → b < columnCount q → bitXor b (own % 2 ^ (q / 2)) < span
+imaginary-entry q b own few h =
+    let half : q / 2 ≤ axisWidth = omega arith in
+    omega (arith, xor-lt (q / 2) b (own % 2 ^ (q / 2)) h (mod-lt own (pow-pos (q / 2))), pow-mono half)

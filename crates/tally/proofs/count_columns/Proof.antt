@@ -1,0 +1,148 @@
+-- The invariant: the children before column b of row a are counted.
+use borrow.Author.Needs.{needs}
+use borrow.Author.Tests.{not-true, not-false}
+use Prim.Native.Nat.{ℕ, _+_, _-_, _*_, _/_, _%_, _^_, _≤_, _<_, max}
+use mathlib.Core.Path.{_≡_, sym, _∙_}
+use native.Mathlib.Nat.{add-zero, suc-mul}
+use native.Mathlib.Omega.{arith}
+use lib.Bits.{bitXor, bitAnd}
+use lib.ListN.{getD}
+use lib.Pow.{pow-pos, pow-mono}
+use Rattle.model.specs.Block.{mostWidth}
+use Rattle.metric.specs.Parts.{span}
+use Rattle.metric.specs.Tables.Axis.{real, imaginary}
+use Rattle.metric.proofs.Grid.{row-room}
+use Rattle.cutoff.proofs.Halves.{columns, masked}
+use Rattle.reach.specs.Reach.{entryPlace}
+use Rattle.siblings.specs.Rows.{columnCount}
+use Rattle.tally.specs.Tally.{CountedTo}
+use Rattle.tally.specs.Family.{wideIn, passesIn, IdleIn}
+use Rattle.tally.proofs.Counting.{never, counted-few, counted-child, row-limits, real-entry, imaginary-entry}
+use Rattle.tally.proofs.count_columns.Statement.{statement}
+use Rattle.tally.proofs.count_columns.Tie as tie
+
+abbrev Inv-loop : tie.InvT-loop
+Inv-loop family a before points numbers tables limits keys q columns at re own count₀ b₀ count b =
+    (b ≤ columnCount (family .shape .width))
+    × CountedTo (passesIn family limits keys) (IdleIn family numbers limits keys) (a * columnCount (family .shape .width) + b) count
+
+abbrev μ-loop : tie.MeasureT-loop
+μ-loop family a before points numbers tables limits keys q columns at re own count₀ b₀ count b = columns - b
+
+-- The row
+module _ (s : tie.Start Inv-loop μ-loop) where
+  abbrev width : ℕ
+  width = s .args .family .shape .width
+
+  few : width ≤ mostWidth
+  few = s .pre .family .asked .vector .bits
+
+  row-columns : 1 * 2 ^ (width / 2) % 2 ^ 64 ≡ columnCount width
+  row-columns = columns width few
+
+  own-column : bitAnd (s .args .family .own) (1 * 2 ^ (width / 2) % 2 ^ 64 - 1) ≡ s .args .family .own % 2 ^ (width / 2)
+  own-column = masked width (s .args .family .own) few
+
+  levels : (1 ≤ s .args .family .level) × (s .args .family .level - 1 ≤ 3)
+  levels =
+      let a = s .pre .family .asked in
+      (omega (arith, a .above-leaves), omega (arith, a .inside, a .vector .streams))
+
+  in-row : bitXor (s .args .a) (s .args .family .own / 2 ^ (width / 2)) < span
+  in-row = real-entry width (s .args .a) (s .args .family .own) few (s .pre .row) (s .pre .family .own)
+
+-- One of its columns
+module _ (c : tie.In-loop Inv-loop μ-loop) where
+  abbrev start : tie.Start Inv-loop μ-loop
+  start = c .before .before .before .before .before .before .before .before
+
+  abbrev symbol : ℕ
+  symbol = start .args .a * columnCount (width start) + c .before .loop .b
+
+  column : c .before .loop .b < columnCount (width start)
+  column = omega (arith, c .loop-test .taken, row-columns start)
+
+  inside : symbol < 2 ^ width start
+  inside = omega (arith, row-room (width start) (start .args .a) (start .pre .row), column)
+
+  small : 2 ^ width start ≤ 2 ^ mostWidth
+  small = pow-mono (few start)
+
+  in-column : bitXor (c .before .loop .b) (bitAnd (start .args .family .own) (1 * 2 ^ (width start / 2) % 2 ^ 64 - 1)) < span
+  in-column = rw (own-column start) (imaginary-entry (width start) (c .before .loop .b) (start .args .family .own) (few start) column)
+
+  count-small : c .before .loop .count ≤ 2 ^ mostWidth
+  count-small = omega (arith, counted-few (c .before .loop .inv .1), inside, small)
+
+  -- The wider of the limits of the row and of the column
+  wide-is : (wide : ℕ)
+      → let f = start .args .family in
+      wide
+      ≡ max
+      (getD (start .args .limits .now) (entryPlace (f .level - 1) real + bitXor (start .args .a) (f .own / 2 ^ (width start / 2))) 0)
+      (getD (start .args .limits .now)
+      (entryPlace (f .level - 1) imaginary + bitXor (c .before .loop .b) (bitAnd (f .own) (1 * 2 ^ (width start / 2) % 2 ^ 64 - 1))) 0)
+      → wide ≡ wideIn f (start .args .limits .now) symbol
+  wide-is wide e =
+      e
+      ∙ sym
+      (rw (own-column start)
+      (row-limits (width start) (start .args .limits .now) (start .args .family .level - 1) (start .args .family .own) (start .args .a)
+      (c .before .loop .b) column))
+
+loop-again : tie.Need-loop-again Inv-loop μ-loop
+loop-again c =
+    let k = c .before .before in
+    let i = k .before .before .before .before in
+    let s = start i in
+    let more : s .args .a * columnCount (width s) + (i .before .loop .b + 1) ≡ symbol i + 1 = omega arith in (
+      omega (arith, column i),
+      rw more
+          (counted-child (s .args .family) (s .args .numbers .now) (s .args .limits .now) (s .args .keys .now) _ _ (i .before .loop .inv .1)
+          (wide-is i _ (k .before .before .larger .ensures))
+          (rw (row-columns s) at (k .count-child .ensures (not-false _ (c .if1 .left))))),
+    )
+
+returns-2 : tie.Need-returns-2 Inv-loop μ-loop
+returns-2 c e =
+    let l = c .before in
+    let s = l .before .before .before .before .before .before .before in
+    let done : s .args .a * columnCount (width s) + l .loop .b ≡ (s .args .a + 1) * columnCount (width s) =
+    omega (arith, c .loop-test .left, row-columns s, l .loop .inv .0, suc-mul (s .args .a) (columnCount (width s))) in
+    rw done at (l .loop .inv .1)
+
+pub count-columns-spec : {M : Type 1} → statement M
+count-columns-spec =
+    tie.close
+    (tie.spec
+    Inv-loop
+    μ-loop
+    (λ c. omega (arith, few (c .before .before)))
+    (λ c. levels (c .before .before .before) .0)
+    (λ c. omega (arith, levels (c .before .before .before) .1))
+    (λ c. omega (arith, levels (c .before .before .before) .1))
+    (λ c. omega (arith, few (c .before .before .before .before)))
+    (λ c. let s = c .before .before .before .before in omega (arith, levels s .1, in-row s))
+    (λ c. let s = c .before .before .before .before in omega (arith, levels s .1, in-row s))
+    (λ c. let s = c .before .before .before .before .before in omega (arith, levels s .1, in-row s, s .pre .family .size))
+    (λ c. let s = c .before .before .before .before .before in omega (arith, row-columns s, pow-pos (width s / 2)))
+    (λ c.
+    let s = c .before .before .before .before .before .before in
+    (omega arith, rw (add-zero (s .args .a * columnCount (width s))) (s .pre .counted)))
+    (λ c. rw (row-columns (start c)) (omega (arith, inside c, small c)))
+    (λ c. rw (row-columns (start c)) (omega (arith, inside c, small c)))
+    (λ c. omega (arith, levels (start c) .1))
+    (λ c. omega (arith, levels (start c) .1, in-column c))
+    (λ c. omega (arith, levels (start c) .1, in-column c))
+    (λ c. let i = c .before in omega (arith, levels (start i) .1, in-column i, start i .pre .family .size))
+    (λ c κs. search needs)
+    (λ c. let i = c .before .before in rw (row-columns (start i)) (omega (arith, inside i, small i)))
+    (λ c. let i = c .before .before .before in rw (row-columns (start i)) (omega (arith, inside i, start i .pre .rows .wide)))
+    (λ c κs.
+    let i = c .before .before .before in
+    rw (row-columns (start i)) (start i .pre .family, inside i, start i .pre .small (symbol i) (inside i), count-small i))
+    (λ c e. absurd (never (sym e ∙ not-true _ (c .if1 .taken))))
+    (λ c. omega arith)
+    (λ c. omega arith)
+    loop-again
+    returns-2)
