@@ -82,7 +82,7 @@ enum geckoneedle_refusal {
  * less trust than the value says. Every vector walks at least M nodes, so there is always a label.
  *
  * Nothing is kept between calls: no global state, no allocation, no file. Calls from several threads need no lock, as long as their buffers
- * are their own. Stack: about 27 KiB, whatever the record is (measured on x86-64); 64 KiB are enough.
+ * are their own. Stack: about 28 KiB, whatever the record is (measured on x86-64); 64 KiB are enough.
  */
 int64_t geckoneedle_detect(const uint8_t *record, size_t record_len, uint8_t *reply, size_t reply_len);
 

@@ -4,25 +4,32 @@ use mathlib.Core.Path.{_≡_}
 use mathlib.Core.List.{List}
 use native.Mathlib.Nat.{mod-lt, zero-add}
 use native.Mathlib.Omega.{arith}
-use lib.Bits.{bitXor, bitAnd, and-mask, xor-shr, xor-mod}
+use lib.Bits.{bitXor, bitAnd, and-mask, xor-lt, xor-shr, xor-mod}
 use lib.ListN.{getD}
-use lib.Pow.{pow-pos}
+use lib.Pow.{pow-pos, pow-mono}
 use Rattle.model.specs.Block.{mostWidth}
 use Rattle.metric.specs.Parts.{span, childMetric}
+use Rattle.metric.specs.Tables.{Axis, axisBits}
+use Rattle.metric.specs.Tables.Axis.{imaginary}
 use Rattle.metric.proofs.Shifts.{one-shifted}
+use Rattle.metric.proofs.Tables.{axis-few}
 use Rattle.model.proofs.Numbers.{first-half}
-use Rattle.cutoff.specs.Cut.{symbolReach}
+use Rattle.cutoff.specs.Cut.{symbolReach, WidestLast, Beyond}
 use Rattle.cutoff.specs.Axes.{NoneOver}
 
 pub imaginary-lt : (q s : ℕ) → s % 2 ^ (q / 2) < 2 ^ (q / 2)
 imaginary-lt q s = mod-lt s (pow-pos (q / 2))
 
--- The low bits of a symbol are its imaginary label
-pub columns : (q : ℕ) → q ≤ mostWidth → 1 * 2 ^ (q / 2) % 2 ^ 64 ≡ 2 ^ (q / 2)
-columns q h = one-shifted (q / 2) (omega arith)
+-- The number of an axis's labels, as it is made by a shift: there are some, and not more than its entries
+pub labels : (q : ℕ) (x : Axis) → q ≤ mostWidth
+    → (1 * 2 ^ axisBits q x % 2 ^ 64 ≡ 2 ^ axisBits q x) × (1 ≤ 2 ^ axisBits q x) × (2 ^ axisBits q x ≤ span)
+labels q x h =
+    let few = axis-few q x h in
+    (one-shifted (axisBits q x) (omega arith), pow-pos (axisBits q x), pow-mono few)
 
+-- The low bits of a symbol are its imaginary label
 pub masked : (q own : ℕ) → q ≤ mostWidth → bitAnd own (1 * 2 ^ (q / 2) % 2 ^ 64 - 1) ≡ own % 2 ^ (q / 2)
-masked q own h = rw (columns q h) (and-mask own (q / 2))
+masked q own h = rw (labels q imaginary h .0) (and-mask own (q / 2))
 
 -- With the parts of either axis, by a rule
 module _ (q : ℕ) (re im : ℕ → ℕ) (row column : ℕ) where
@@ -48,3 +55,25 @@ module _ (q : ℕ) (re im : ℕ → ℕ) (row column : ℕ) where
       let r = low-re (s / 2 ^ (q / 2)) (first-half q s h) in
       let i = low-im (s % 2 ^ (q / 2)) (imaginary-lt q s) in
       (omega arith, omega arith)
+
+-- Where the widest entry of an axis of w bits is not above `low`, and no part with `other` is below that, none is below its entry
+pub none-wider : (entries : List ℕ) (from w : ℕ) (part : ℕ → ℕ) (other low last label : ℕ) → WidestLast entries from w
+    → ((g : ℕ) → g < 2 ^ w → low ≤ other + part g) → label < 2 ^ w → last ≡ from + (2 ^ w - 1) → getD entries last 0 ≤ low
+    → NoneOver entries from (2 ^ w) part other label
+none-wider entries from w part other low last label widest least below here shut g h =
+    omega (arith, rw here at shut, widest (bitXor g label) (xor-lt w g label h below), least g h)
+
+-- Where no part is below `row` and `column`, their sum is not below `base`, and no part with that of the other axis is below its entry,
+-- every child would be cut
+pub parts-beyond : (q partial : ℕ) (re im : ℕ → ℕ) (row column base : ℕ) (entries : List ℕ) (own : ℕ)
+    → ((a : ℕ) → a < 2 ^ (q - q / 2) → row ≤ re a) → ((b : ℕ) → b < 2 ^ (q / 2) → column ≤ im b)
+    → base ≤ partial + (row + column)
+    → NoneOver entries 0 (2 ^ (q - q / 2)) re (partial + column) (own / 2 ^ (q / 2))
+    → NoneOver entries span (2 ^ (q / 2)) im (partial + row) (own % 2 ^ (q / 2))
+    → (s : ℕ) → s < 2 ^ q → Beyond q base entries own (childMetric q partial re im s) s
+parts-beyond q partial re im row column base entries own low-re low-im low over-re over-im s h =
+    let least = child-ge q re im row column partial low-re low-im s h in
+    record {
+      above-base = omega (arith, least .0);
+      above-own = omega (arith, least .1, none-over q re im (partial + row) (partial + column) entries own over-re over-im s h);
+    }

@@ -1,3 +1,4 @@
 pub mod Runs
 pub mod Halves
 pub mod Near
+pub mod Stored

@@ -6,7 +6,8 @@ use mathlib.Core.List.{List}
 use lib.Bits.{bitXor}
 use lib.IntN.{ℤ, natAbs}
 use lib.ListN.{length, getD}
-use Rattle.metric.specs.Parts.{span}
+use Rattle.model.specs.Block.{mostWidth}
+use Rattle.metric.specs.Parts.{span, AllSmall}
 use Rattle.metric.specs.Rows.{VectorAsked}
 use Rattle.metric.specs.Tables.{Tabled}
 
@@ -30,7 +31,7 @@ pub record Widest (q : ℕ) (entries : List ℕ) : Type 0 where
   pub real : WidestLast entries 0 (q - q / 2)
   pub imaginary : WidestLast entries span (q / 2)
 
--- What the test asks: `re` and `im` are what remains of y in the row
+-- What the test by distances asks: `re` and `im` are what remains of y in the row
 pub record OpensAsked (m q row : ℕ) (re im : ℤ) (partial : ℕ) (numbers tables : List ℤ) (entries : List ℕ) (own : ℕ) : Type 0 where
   pub vector : VectorAsked m q numbers
   pub tabled : Tabled m q numbers tables
@@ -38,6 +39,16 @@ pub record OpensAsked (m q row : ℕ) (re im : ℤ) (partial : ℕ) (numbers tab
   pub low-re : natAbs re < 2 ^ 30
   pub low-im : natAbs im < 2 ^ 30
   pub low : partial < 2 ^ 61
+  pub stream : length entries ≡ 2 * span
+  pub widest : Widest q entries
+  pub symbol : own < 2 ^ q
+
+-- What the test by the parts asks, which stand in `axes`
+pub record ShutAsked (q partial : ℕ) (axes entries : List ℕ) (own : ℕ) : Type 0 where
+  pub bits : q ≤ mostWidth
+  pub low : partial < 2 ^ 61
+  pub both : length axes ≡ 2 * span
+  pub small : AllSmall axes
   pub stream : length entries ≡ 2 * span
   pub widest : Widest q entries
   pub symbol : own < 2 ^ q

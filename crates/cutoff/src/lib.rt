@@ -1,17 +1,19 @@
-// Would every child of a node be cut? Decided from what remains of y, before a part of an axis is stored or a child's key is filled in.
+// Would every child of a node be cut? Decided from what remains of y, before a part of an axis is stored (`opens`), and from the stored parts,
+// before a child's key is filled in (`shuts`).
 use metric::AXES;
 use metric::Complex;
 use metric::Shape;
 use metric::TABLE;
 ghost use mathlib.Core.Path.{_≡_};
-ghost use mathlib.Core.Bool.{false};
+ghost use mathlib.Core.Bool.{true, false};
 ghost use Prim.Native.Nat.{ℕ, suc, _*_, _-_, _<_, _^_};
 ghost use Rattle.model.specs.Constellation.{bitsOf};
 ghost use Rattle.constellation.specs.Points.{complexOf};
+ghost use Rattle.metric.specs.Parts.{childMetric, realIn, imaginaryIn};
 ghost use Rattle.metric.specs.Rows.{rowAt, remainderOf, childOf};
 ghost use Rattle.metric.specs.Tables.{tablePart};
-ghost use Rattle.cutoff.specs.Cut.{Beyond, OpensAsked};
-ghost use Rattle.cutoff.specs.Axes.{NoneOver, PartAsked, ReachAsked};
+ghost use Rattle.cutoff.specs.Cut.{Beyond, OpensAsked, ShutAsked};
+ghost use Rattle.cutoff.specs.Axes.{NoneOver, PartAsked, partIn, LeastAsked, LeastOf, AnyAsked};
 
 // How many labels the widest axis has: the place of the imaginary axis's parts, and of its entries.
 const SPAN: usize = AXES / 2;
@@ -78,32 +80,11 @@ fn any_part_of(
     any_part(tables, at, left, w, other, entries, from, own)
 }
 
-// The same. No sum is below `low`, and no entry is wider than that of the label whose bits are all 1: where that is not above `low` no part
-// has to be made.
-fn axis_opens(
-    tables: &[i32; TABLE],
-    at: usize,
-    left: i64,
-    w: usize,
-    other: u64,
-    low: u64,
-    entries: &[u64],
-    from: usize,
-    own: usize,
-) -> bool
-    requires { ⌜ ReachAsked (now tables) at left w other low (now entries) from own ⌝ }
-    ensures { λ r. ⌜ (r ≡ false → NoneOver (now (entries .entry)) from (2 ^ w) (tablePart (now (tables .entry)) at left) other own) ⌝ }
-{
-    if entries[from + ((1 << w) - 1)] <= low {
-        return false;
-    }
-    any_part_of(tables, at, left, w, other, entries, from, own)
-}
-
 // May a child of a node pass? Where this is false every child would be cut: its partial metric is not below `base`, what is held against
 // all siblings, nor below a limit of its own bits that differ from `own`, the best label's symbol there. `left` is what remains of y in the
 // row, and `entries` are the limits of its stream. No child is below the parent's partial metric with the squared distance to the nearest
-// amplitude of either axis, nor below a label's part with that distance on the other axis.
+// amplitude of either axis, nor below a label's part with that distance on the other axis. The former, `low`, is above none of the latter, and
+// no entry of an axis is wider than that of the label whose bits are all 1: where that is not above `low` no part of the axis has to be made.
 pub fn opens(
     shape: Shape,
     row: usize,
@@ -139,11 +120,129 @@ pub fn opens(
         return true;
     }
     let at = row * (4 * SPAN);
+    let ones = (1 << v) - 1;
     let own_re = own >> v;
-    let own_im = own & ((1 << v) - 1);
-    if axis_opens(tables, at, left.re, w, sum_im, low, entries, 0, own_re) {
-        return true;
+    if low < entries[(1 << w) - 1] {
+        if any_part_of(tables, at, left.re, w, sum_im, entries, 0, own_re) {
+            return true;
+        }
+    }
+    if entries[SPAN + ones] <= low {
+        return false;
     }
     let next = at + 2 * SPAN;
-    axis_opens(tables, next, left.im, v, sum_re, low, entries, SPAN, own_im)
+    any_part_of(tables, next, left.im, v, sum_re, entries, SPAN, own & ones)
+}
+
+// The least of n parts from a place on.
+fn least_among(axes: &[u64; AXES], from: usize, n: usize) -> u64
+    requires { ⌜ LeastAsked (now axes) from n ⌝ }
+    ensures { λ r. ⌜ LeastOf (now (axes .entry)) from n r ⌝ }
+{
+    let mut least = axes[from];
+    let mut g = 1;
+    while g < n {
+        let part = axes[from + g];
+        if part < least {
+            least = part;
+        }
+        g += 1;
+    }
+    least
+}
+
+// The same; an axis of 64-QAM has eight labels and one of 16-QAM four, which the compiler is told here.
+fn least_part(axes: &[u64; AXES], from: usize, n: usize) -> u64
+    requires { ⌜ LeastAsked (now axes) from n ⌝ }
+    ensures { λ r. ⌜ LeastOf (now (axes .entry)) from n r ⌝ }
+{
+    if n == 8 {
+        return least_among(axes, from, 8);
+    }
+    if n == 4 {
+        return least_among(axes, from, 4);
+    }
+    least_among(axes, from, n)
+}
+
+// Is one of n parts from a place on, with `other` added to it, below the widest limit of the bits in which its label differs from `own`?
+fn any_among(
+    entries: &[u64],
+    axes: &[u64; AXES],
+    from: usize,
+    n: usize,
+    other: u64,
+    own: usize,
+) -> bool
+    requires { ⌜ AnyAsked (now entries) (now axes) from n other own ⌝ }
+    ensures { λ r. ⌜ (r ≡ false → NoneOver (now (entries .entry)) from n (partIn (now (axes .entry)) from) other own) ⌝ }
+{
+    let mut g = 0;
+    while g < n {
+        if other + axes[from + g] < entries[from + (g ^ own)] {
+            return true;
+        }
+        g += 1;
+    }
+    false
+}
+
+// The same; the compiler is told of eight labels and of four here too.
+fn any_below(
+    entries: &[u64],
+    axes: &[u64; AXES],
+    from: usize,
+    n: usize,
+    other: u64,
+    own: usize,
+) -> bool
+    requires { ⌜ AnyAsked (now entries) (now axes) from n other own ⌝ }
+    ensures { λ r. ⌜ (r ≡ false → NoneOver (now (entries .entry)) from n (partIn (now (axes .entry)) from) other own) ⌝ }
+{
+    if n == 8 {
+        return any_among(entries, axes, from, 8, other, own);
+    }
+    if n == 4 {
+        return any_among(entries, axes, from, 4, other, own);
+    }
+    any_among(entries, axes, from, n, other, own)
+}
+
+// Would every child of a node be cut? Where this is true all would. `axes` has the parts of their labels, prior costs and all; `base` is what
+// all siblings are held against, `entries` are the limits of their stream and `own` is the best label's symbol there. `opens` asks the same
+// before the parts are made, by the distances alone, so where there are priors it lets more nodes through. No child is below the parent's
+// partial metric with the least part of either axis, nor below a label's part with the least of the other axis. The former, `least`, is above
+// none of the latter: where the widest entry of an axis, its last, is not above `least` no part of the axis has to be held against its entry.
+pub fn shuts(
+    q: usize,
+    partial: u64,
+    base: u64,
+    axes: &[u64; AXES],
+    entries: &[u64],
+    own: usize,
+) -> bool
+    requires { ⌜ ShutAsked q partial (now axes) (now entries) own ⌝ }
+    ensures { λ r. ⌜ (r ≡ true → (s : ℕ) → s < 2 ^ q
+        → Beyond q base (now (entries .entry)) own
+        (childMetric q partial (realIn (now (axes .entry))) (imaginaryIn (now (axes .entry))) s) s) ⌝ }
+{
+    let v = q / 2;
+    let rows: usize = 1 << (q - v);
+    let columns: usize = 1 << v;
+    let re = least_part(axes, 0, rows);
+    let im = least_part(axes, SPAN, columns);
+    let least = partial + (re + im);
+    if least < base {
+        return false;
+    }
+    if least < entries[rows - 1] {
+        if any_below(entries, axes, 0, rows, partial + im, own >> v) {
+            return false;
+        }
+    }
+    let ones = columns - 1;
+    if entries[SPAN + ones] <= least {
+        return true;
+    }
+    !any_below(entries, axes, SPAN, columns, partial + re, own & ones)
 }

@@ -1,5 +1,5 @@
 -- A list filled place by place: after its first k places, for every k, those hold their values and the others are as before.
-use Prim.Native.Nat.{ℕ, zero, suc, _+_, _<_, _≤_}
+use Prim.Native.Nat.{ℕ, zero, suc, _+_, _^_, _<_, _≤_}
 use mathlib.Core.Path.{_≡_, refl, sym, _∙_, ap, ap₂, subst}
 use mathlib.Core.Logic.{⊎-elim}
 use mathlib.Core.List.{List}
@@ -7,7 +7,7 @@ use native.Mathlib.Nat.{add-suc, eq-or-lt-of-le, le-of-suc-le-suc, not-suc-le-ze
 use native.Mathlib.Decide.{ℕ-discrete}
 use native.Mathlib.Numerals.{add-one}
 use native.Mathlib.Omega.{arith}
-use lib.ListN.{length, getD, set, length-set}
+use lib.ListN.{length, getD, set, replicate, length-set}
 use lib.Seq.{getD-set-same, getD-set-other}
 use Rattle.metric.specs.Parts.{filled, filledFrom}
 
@@ -74,6 +74,13 @@ module _ {A : Type 0} where
       getD-set-other (filledFrom at f k l) (at + k) (at + i) (f k) d (ne-of-lt (omega arith)) ∙ from-at at f k l i d lt (omega arith))
       (eq-or-lt-of-le (le-of-suc-le-suc h))
 
+  -- Rules that agree on n places fill alike
+  pub from-same : (at : ℕ) (f g : ℕ → A) (n : ℕ) (l : List A) → ((i : ℕ) → i < n → f i ≡ g i) → filledFrom at f n l ≡ filledFrom at g n l
+  unfolding filledFrom
+  from-same at f g zero l h = refl
+  from-same at f g (suc n) l h =
+      ap₂ (λ (x : List A) (v : A). set x (at + n) v) (from-same at f g n l (λ i k. h i (omega arith))) (h n (omega arith))
+
   -- What every value that is filled in and every old entry has, every entry has
   pub from-all : (P : A → Type 0) (at : ℕ) (f : ℕ → A) (k : ℕ) (l : List A) (d : A) → at + k ≤ length l
       → ((i : ℕ) → i < k → P (f i)) → ((i : ℕ) → P (getD l i d)) → (i : ℕ) → P (getD (filledFrom at f k l) i d)
@@ -105,3 +112,9 @@ module _ {A : Type 0} where
       let e : at + n + k ≡ at + (n + k) = omega arith in
       rw (add-suc, e)
       (ap₂ (λ (x : List A) (v : A). set x (at + (n + k)) v) (from-behind at n f h k l (λ i j. same i (omega arith))) (same k (omega arith)))
+
+-- An array that is cleared has small entries
+pub zeros-small : (n i : ℕ) → getD (replicate n 0) i 0 < 2 ^ 62
+zeros-small zero i = omega arith
+zeros-small (suc n) zero = omega arith
+zeros-small (suc n) (suc i) = zeros-small n i

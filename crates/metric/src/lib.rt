@@ -11,7 +11,7 @@ ghost use Rattle.model.specs.Metric.{bitCost};
 ghost use Rattle.model.specs.Block.{mostWidth, mostEntry};
 ghost use Rattle.constellation.specs.Points.{complexOf, places, pointIn, Points};
 ghost use Rattle.block.specs.Contents.{complexAt};
-ghost use Rattle.metric.specs.Parts.{axisWidth, span, part, bitOf, axisCost, rowMetric, measuredTo, apart, nearestOf};
+ghost use Rattle.metric.specs.Parts.{axisWidth, span, part, bitOf, axisCost, imaginaryIn, rowMetric, measuredTo, apart, nearestOf};
 ghost use Rattle.metric.specs.Parts.{filledFrom, AllSmall};
 ghost use Rattle.metric.specs.Rows.{rowAt, remainderOf, VectorAsked, Measured, Factors, TermAsked};
 ghost use Rattle.metric.specs.Tables.{tableSize, labelProduct, labelCost, entriesIn, tablePart, Tabled};
@@ -288,6 +288,19 @@ fn fill_columns(base: u64, axes: &[u64; AXES], n: usize, at: usize, keys: &mut [
     }
 }
 
+// The parts of the first n imaginary labels, in an array of the pass's own: the compiler then knows that no key stands among them, and reads
+// each but once.
+fn copy_imaginary(axes: &[u64; AXES], n: usize, parts: &mut [u64; AXES])
+    requires { ⌜ n ≤ span ⌝ }
+    ensures { λ _. ⌜ now (parts .exit) ≡ filledFrom span (imaginaryIn (now (axes .entry))) n (now (parts .entry)) ⌝ }
+{
+    let mut g = 0;
+    while g < n {
+        parts[SPAN + g] = axes[SPAN + g];
+        g += 1;
+    }
+}
+
 // The children's partial metrics in one pass, row by row of the constellation: each place is written once, with its whole increment.
 fn fill_rows(q: usize, partial: u64, axes: &[u64; AXES], keys: &mut [u64])
     requires { ⌜ (q ≤ mostWidth) × (partial < 2 ^ 62) × AllSmall (now axes) × (2 ^ q ≤ length (now keys)) ⌝ }
@@ -295,9 +308,11 @@ fn fill_rows(q: usize, partial: u64, axes: &[u64; AXES], keys: &mut [u64])
 {
     let rows: usize = 1 << (q - q / 2);
     let n: usize = 1 << (q / 2);
+    let mut parts = [0u64; AXES];
+    copy_imaginary(axes, n, &mut parts);
     let mut a = 0;
     while a < rows {
-        fill_columns(partial + axes[a], axes, n, a * n, keys);
+        fill_columns(partial + axes[a], &parts, n, a * n, keys);
         a += 1;
     }
 }

@@ -3,14 +3,14 @@ use Prim.Native.Nat.{ℕ, zero, suc, _+_, _-_, _*_, _/_, _%_, _^_, _≤_, _<_, m
 use mathlib.Core.Path.{_≡_, refl, sym, _∙_, ap, ap₂}
 use mathlib.Core.Bool.{Bool, true, false, cond, not, Bool·beq}
 use mathlib.Core.List.{List}
-use native.Mathlib.Nat.{mod-lt, suc-mul, add-mul, zero-mul, le-refl, mod-eq-of-lt}
+use native.Mathlib.Nat.{mod-lt, suc-mul, add-mul, mul-le-mul, zero-mul, zero-div, le-refl, mod-eq-of-lt}
 use native.Mathlib.Omega.{arith}
 use lib.Dec.{eqb}
 use lib.ListN.{getD, take, drop}
 use lib.Seq.{getD-take, getD-drop}
 use lib.Bits.{bitXor, xor-shr, xor-mod}
-use lib.Pow.{pow-pos, pow-mono, ones-lt, high, low, field, mod-mod-pow}
-use Rattle.model.specs.Block.{mostWidth}
+use lib.Pow.{pow-pos, pow-mono, ones-lt, ones-split, high, low, field, mod-mod-pow}
+use Rattle.model.specs.Block.{mostWidth, mostBits}
 use Rattle.metric.specs.Parts.{span, bitOf}
 use Rattle.metric.specs.Tables.{Axis, axisBits}
 use Rattle.metric.specs.Tables.Axis.{real, imaginary}
@@ -18,8 +18,9 @@ use Rattle.metric.proofs.Tables.{axis-few}
 use Rattle.cutoff.specs.Cut.{WidestLast, Widest}
 use Rattle.pruning.specs.Reach.{widestOf}
 use Rattle.pruning.proofs.Reach.{widest-split, widest-same, symbol-bit}
-use Rattle.reach.specs.Reach.{firstPlace, entryPlace, axisStart, axisReach, streamReach, symbolOf, chosenReach, Reaches, entriesOf}
-use Rattle.reach.proofs.Axes.{all-ones}
+use Rattle.reach.specs.Reach.{limitIn, firstPlace, axisEntries, entryPlace, axisStart, axisReach, streamReach, symbolOf, chosenReach}
+use Rattle.reach.specs.Reach.{StandsFor, Reaches, entriesOf}
+use Rattle.reach.proofs.Axes.{axis-same, all-ones}
 use Rattle.reach.proofs.Streams.{stream-is}
 
 -- A bit of an exclusive or says that two bits are opposite
@@ -164,3 +165,54 @@ chosen-child m q limits level node s label h few l =
     room j k t =
         let f : m - suc level ≡ (j - suc level) + suc (m - suc j) = omega arith in
         omega (arith, ap (λ (n : ℕ). n * q) f, add-mul (j - suc level) (suc (m - suc j)) q, suc-mul (m - suc j) q)
+
+-- Where the entries were right, and no limit is changed but those of bits that are 1 in a number, the streams whose symbols are 0 in it have
+-- theirs still
+module _ (m q changed : ℕ) {limit : ℕ → ℕ} {old : List ℕ} (made : Reaches q limit old m) (new : List ℕ)
+    (entries : (i : ℕ) → axisEntries ≤ i → getD new i 0 ≡ getD old i 0)
+    (limits : (i : ℕ) → i < m * q → bitOf (m * q) changed i ≡ false → limitIn new i ≡ limit i) where
+  inside-label : (j i : ℕ) → j < m → i < j * q + q → i < m * q
+  inside-label j i h l = omega (arith, mul-le-mul h (le-refl q), suc-mul j q)
+
+  bit-same : (j i : ℕ) → j < m → symbolOf m q changed j ≡ 0 → j * q ≤ i → i < j * q + q → bitOf (m * q) changed i ≡ false
+  unfolding bitOf
+  bit-same j i h e k l =
+      let place : i ≡ j * q + (i - j * q) = omega arith in
+      let none : 0 / 2 ^ (q - suc (i - j * q)) % 2 ≡ 0 = ap (λ (n : ℕ). n % 2) (zero-div (2 ^ (q - suc (i - j * q)))) in
+      ap (bitOf (m * q) changed) place ∙ symbol-bit m q changed j (i - j * q) h (omega arith)
+      ∙ ap (λ (s : ℕ). bitOf q s (i - j * q)) e ∙ ap (λ (n : ℕ). eqb n 1) none
+
+  within : (j : ℕ) (x : Axis) (i : ℕ) → i < axisStart q j x + axisBits q x → i < j * q + q
+  within j real i l = omega arith
+  within j imaginary i l = omega arith
+
+  from : (j : ℕ) (x : Axis) (i : ℕ) → axisStart q j x ≤ i → j * q ≤ i
+  from j real i k = omega arith
+  from j imaginary i k = omega arith
+
+  behind : (j : ℕ) (x : Axis) (g : ℕ) → axisEntries ≤ entryPlace j x + g
+  behind j real g = omega arith
+  behind j imaginary g = omega arith
+
+  pub still-stands : StandsFor m q changed new
+  still-stands j h e x g l =
+      entries (entryPlace j x + g) (behind j x g) ∙ made .entry j h x g l
+      ∙ axis-same limit (limitIn new) (axisStart q j x) (axisBits q x) g
+      (λ i k t.
+      let last = within j x i t in
+      sym (limits i (inside-label j i h last) (bit-same j i h e (from j x i k) last)))
+
+-- No symbol is 0 in a number whose bits are all 1
+pub none-stands : (m q : ℕ) (limits : List ℕ) → 0 < q → m * q ≤ mostBits → StandsFor m q (2 ^ 32 - 1) limits
+none-stands m q limits some label j h e =
+    let p = (m - suc j) * q in
+    let f : m ≡ (j + 1) + (m - suc j) = omega arith in
+    let room : q + p ≤ mostBits = omega (arith, ap (λ (y : ℕ). y * q) f, add-mul (j + 1) (m - suc j) q, add-mul j 1 q) in
+    let n : 32 ≡ (32 - p) + p = omega arith in
+    let k : 32 - p ≡ (32 - p - q) + q = omega arith in
+    let shifted : (2 ^ 32 - 1) / 2 ^ p ≡ 2 ^ (32 - p) - 1 =
+    ap (λ (y : ℕ). (2 ^ y - 1) / 2 ^ p) n ∙ ap (λ (y : ℕ). y / 2 ^ p) (ones-split (32 - p) p) ∙ high (2 ^ (32 - p) - 1) p (ones-lt p) in
+    let symbol : symbolOf m q (2 ^ 32 - 1) j ≡ 2 ^ q - 1 =
+    ap (λ (y : ℕ). y % 2 ^ q) shifted ∙ ap (λ (y : ℕ). (2 ^ y - 1) % 2 ^ q) k ∙ ap (λ (y : ℕ). y % 2 ^ q) (ones-split (32 - p - q) q)
+    ∙ low (2 ^ (32 - p - q) - 1) q (ones-lt q) in
+    absurd (omega (arith, symbol, e, pow-mono some))

@@ -1,9 +1,9 @@
 -- A stream's entries and the widest limit of the streams up to it: what filling them in makes of the array.
 use Prim.Native.Nat.{ℕ, suc, _+_, _-_, _*_, _/_, _%_, _^_, _≤_, _<_, max}
-use mathlib.Core.Path.{_≡_, sym, _∙_, ap, ap₂}
+use mathlib.Core.Path.{_≡_, refl, sym, _∙_, ap, ap₂}
 use mathlib.Core.Bool.{true}
 use mathlib.Core.List.{List}
-use mathlib.Core.Logic.{inl}
+use mathlib.Core.Logic.{inl, inr}
 use native.Mathlib.Decide.{decLt}
 use native.Mathlib.Nat.{le-refl, ne-of-lt, ne-of-gt, mul-le-mul, suc-mul, zero-mul, mod-lt, not-suc-le-zero}
 use native.Mathlib.Numerals.{add-one}
@@ -19,13 +19,12 @@ use Rattle.pruning.specs.Reach.{widestOf}
 use Rattle.pruning.proofs.Reach.{widest-split, widest-same}
 use Rattle.model.proofs.Numbers.{first-half}
 use Rattle.reach.specs.Reach.{limitIn, limitsSize, firstPlace, entryPlace, axisStart, axisReach, streamReach}
-use Rattle.reach.specs.Reach.{Reaches, AxisFilled, StreamFilled}
+use Rattle.reach.specs.Reach.{StreamRight, Reaches, AxisFilled, Elsewhere, AxesFilled, StreamFilled}
 use Rattle.reach.proofs.Axes.{axis-same, all-ones, halves}
 
 -- A symbol's reach is that of all its bits, by the entries of its two axes
 pub stream-is : (q : ℕ) (limit : ℕ → ℕ) (limits : List ℕ) (j s : ℕ)
-    → ((x : Axis) (g : ℕ) → g < 2 ^ axisBits q x
-    → getD limits (entryPlace j x + g) 0 ≡ axisReach limit (axisStart q j x) (axisBits q x) g) → s < 2 ^ q
+    → StreamRight q limit limits j → s < 2 ^ q
     → streamReach q limits j s ≡ axisReach limit (j * q) q s
 unfolding streamReach
 stream-is q limit limits j s entry h =
@@ -36,19 +35,22 @@ stream-is q limit limits j s entry h =
 pub bits-few : (q j m : ℕ) → j < m → m * q ≤ mostBits → j * q + q ≤ mostBits
 bits-few q j m inside label = omega (arith, mul-le-mul inside (le-refl q), suc-mul j q)
 
+-- and so are those of its axes
+axis-inside : (q j : ℕ) → j * q + q ≤ mostBits → (x : Axis) → axisStart q j x + axisBits q x ≤ mostBits
+axis-inside q j label real = omega arith
+axis-inside q j label imaginary = omega arith
+
 -- The two axes are filled, one after the other
-module _ {q j : ℕ} {old one two : List ℕ} (few : q ≤ mostWidth) (inside : j < mostStreams) (label : j * q + q ≤ mostBits)
-    (room : length old ≡ limitsSize)
+module _ (q j : ℕ) {old one two : List ℕ} (few : q ≤ mostWidth) (label : j * q + q ≤ mostBits)
     (first : AxisFilled old one (axisStart q j real) (axisBits q real) (entryPlace j real) (axisBits q real))
     (second : AxisFilled one two (axisStart q j imaginary) (axisBits q imaginary) (entryPlace j imaginary) (axisBits q imaginary)) where
-  size : length two ≡ limitsSize
-  size = second .size ∙ first .size ∙ room
+  kept : (i : ℕ) → Elsewhere j i → getD two i 0 ≡ getD old i 0
+  kept i (inl h) = second .kept i (inl (omega arith)) ∙ first .kept i (inl h)
+  kept i (inr h) =
+      second .kept i (inr (omega (arith, pow-mono (axis-few q imaginary few))))
+      ∙ first .kept i (inr (omega (arith, pow-mono (axis-few q real few))))
 
-  below : (i : ℕ) → i < entryPlace j real → getD two i 0 ≡ getD old i 0
-  below i h = second .kept i (inl (omega arith)) ∙ first .kept i (inl h)
-
-  entries : (x : Axis) (g : ℕ) → g < 2 ^ axisBits q x
-      → getD two (entryPlace j x + g) 0 ≡ axisReach (limitIn old) (axisStart q j x) (axisBits q x) g
+  entries : StreamRight q (limitIn old) two j
   entries real g h =
       let e : axisStart q j real + (axisBits q real - axisBits q real) ≡ axisStart q j real = omega arith in
       second .kept (entryPlace j real + g) (inl (omega (arith, pow-mono (axis-few q real few)))) ∙ first .each g h
@@ -59,27 +61,38 @@ module _ {q j : ℕ} {old one two : List ℕ} (few : q ≤ mostWidth) (inside : 
       ∙ axis-same (limitIn one) (limitIn old) (axisStart q j imaginary) (axisBits q imaginary) g
       (λ i k l. first .kept i (inl (omega (arith, label))))
 
-  own : streamReach q two j (2 ^ q - 1) ≡ widestOf (λ _. true) (limitIn old) (j * q) q
-  own = stream-is q (limitIn old) two j (2 ^ q - 1) entries (ones-lt q) ∙ all-ones (limitIn old) (j * q) q
+  pub axes-filled : AxesFilled q old two j
+  axes-filled = record { size = second .size ∙ first .size; kept = kept; entry = entries }
 
-  -- and then the widest limit of the streams up to it
-  pub stream-filled : (widest : ℕ) → widest ≡ max (getD two (firstPlace j) 0) (streamReach q two j (2 ^ q - 1))
-      → StreamFilled q old (set two (firstPlace (j + 1)) widest) j
+-- or they stand already
+pub axes-stand : (q j : ℕ) (old : List ℕ) → StreamRight q (limitIn old) old j → AxesFilled q old old j
+axes-stand q j old right = record { size = refl; kept = λ i h. refl; entry = right }
+
+-- and then the widest limit of the streams up to the stream
+module _ {q j : ℕ} {old mid : List ℕ} (inside : j < mostStreams) (room : length old ≡ limitsSize) (axes : AxesFilled q old mid j) where
+  own : streamReach q mid j (2 ^ q - 1) ≡ widestOf (λ _. true) (limitIn old) (j * q) q
+  own = stream-is q (limitIn old) mid j (2 ^ q - 1) (axes .entry) (ones-lt q) ∙ all-ones (limitIn old) (j * q) q
+
+  pub stream-filled : (widest : ℕ) → widest ≡ max (getD mid (firstPlace j) 0) (streamReach q mid j (2 ^ q - 1))
+      → StreamFilled q old (set mid (firstPlace (j + 1)) widest) j
   stream-filled widest e = rw add-one (record {
-    size = length-set two (firstPlace (suc j)) widest ∙ second .size ∙ first .size;
-    before = λ i h. getD-set-other two (firstPlace (suc j)) i widest 0 (ne-of-lt (omega arith)) ∙ below i (omega arith);
-    earlier = λ i h k. getD-set-other two (firstPlace (suc j)) i widest 0 (ne-of-gt (omega arith)) ∙ below i k;
-    first = getD-set-same two (firstPlace (suc j)) widest 0 (omega (arith, size)) ∙ e ∙ ap₂ max (below (firstPlace j) (omega arith)) own;
-    entry = λ x g h. getD-set-other two (firstPlace (suc j)) (entryPlace j x + g) widest 0 (ne-of-gt (behind x g)) ∙ entries x g h;
+    size = length-set mid (firstPlace (suc j)) widest ∙ axes .size;
+    before = λ i h. getD-set-other mid (firstPlace (suc j)) i widest 0 (ne-of-lt (omega arith)) ∙ axes .kept i (inl (omega arith));
+    others = λ i h k. getD-set-other mid (firstPlace (suc j)) i widest 0 (ne-of-gt (omega arith)) ∙ axes .kept i k;
+    first = getD-set-same mid (firstPlace (suc j)) widest 0 (omega (arith, axes .size)) ∙ e
+        ∙ ap₂ max (axes .kept (firstPlace j) (inl (omega arith))) own;
+    entry = λ x g h. getD-set-other mid (firstPlace (suc j)) (entryPlace j x + g) widest 0 (ne-of-gt (behind x g)) ∙ axes .entry x g h;
   })
     where
       behind : (x : Axis) (g : ℕ) → firstPlace (suc j) < entryPlace j x + g
       behind real g = omega arith
       behind imaginary g = omega arith
 
--- While the streams are filled in: the limits are as before, and what the first j streams give is there
+-- While the streams are filled in: the limits are as before and so are the entries of the streams from j on, and what the first j streams
+-- give is there
 pub record Filling (q : ℕ) (old now : List ℕ) (j : ℕ) : Type 0 where
   pub same : (i : ℕ) → i < mostBits → getD now i 0 ≡ getD old i 0
+  pub later : (i : ℕ) → entryPlace j real ≤ i → getD now i 0 ≡ getD old i 0
   pub made : Reaches q (limitIn old) now j
 
 -- Before the first stream
@@ -87,14 +100,29 @@ pub reaches-none : (q : ℕ) (old : List ℕ) → length old ≡ limitsSize → 
 unfolding widestOf
 reaches-none q old room = record {
   same = λ i h. getD-set-other old mostBits i 0 0 (ne-of-lt h);
+  later = λ i h. getD-set-other old mostBits i 0 0 (ne-of-gt (omega arith));
   made = record {
     size = length-set old mostBits 0 ∙ room;
+    own = λ i h. absurd (omega (arith, zero-mul q));
     first = λ level h.
         let e : level ≡ 0 = omega arith in
         rw (e, zero-mul) (getD-set-same old mostBits 0 0 (omega arith));
     entry = λ j h. absurd (not-suc-le-zero h);
   };
 }
+
+-- The entries of a stream that stood for the limits at first still do
+module _ {q j : ℕ} {old now : List ℕ} (label : j * q + q ≤ mostBits) (so-far : Filling q old now j)
+    (right : StreamRight q (limitIn old) old j) where
+  unmoved : (x : Axis) (g : ℕ) → entryPlace j real ≤ entryPlace j x + g
+  unmoved real g = omega arith
+  unmoved imaginary g = omega arith
+
+  pub still-right : StreamRight q (limitIn now) now j
+  still-right x g h =
+      so-far .later (entryPlace j x + g) (unmoved x g) ∙ right x g h
+      ∙ axis-same (limitIn old) (limitIn now) (axisStart q j x) (axisBits q x) g
+      (λ i k l. sym (so-far .same i (omega (arith, axis-inside q j label x))))
 
 -- One stream more
 module _ {q j : ℕ} (old : List ℕ) {now new : List ℕ} (few : q ≤ mostWidth) (label : j * q + q ≤ mostBits) (so-far : Filling q old now j)
@@ -115,13 +143,9 @@ module _ {q j : ℕ} (old : List ℕ) {now new : List ℕ} (few : q ≤ mostWidt
   older : (i : ℕ) → i < j → (x : Axis) (g : ℕ) → g < 2 ^ axisBits q x
       → getD new (entryPlace i x + g) 0 ≡ getD now (entryPlace i x + g) 0
   older i h real g k =
-      filled .earlier (entryPlace i real + g) (omega arith) (omega (arith, pow-mono (axis-few q real few)))
+      filled .others (entryPlace i real + g) (omega arith) (inl (omega (arith, pow-mono (axis-few q real few))))
   older i h imaginary g k =
-      filled .earlier (entryPlace i imaginary + g) (omega arith) (omega (arith, pow-mono (axis-few q imaginary few)))
-
-  start : (x : Axis) → axisStart q j x + axisBits q x ≤ mostBits
-  start real = omega (arith, label)
-  start imaginary = omega (arith, label)
+      filled .others (entryPlace i imaginary + g) (omega arith) (inl (omega (arith, pow-mono (axis-few q imaginary few))))
 
   each : (i : ℕ) → i < suc j → (x : Axis) (g : ℕ) → g < 2 ^ axisBits q x → Dec (i < j)
       → getD new (entryPlace i x + g) 0 ≡ axisReach (limitIn old) (axisStart q i x) (axisBits q x) g
@@ -130,13 +154,17 @@ module _ {q j : ℕ} (old : List ℕ) {now new : List ℕ} (few : q ≤ mostWidt
       let e : i ≡ j = omega arith in
       rw e
       (filled .entry x g k
-      ∙ axis-same (limitIn now) (limitIn old) (axisStart q j x) (axisBits q x) g (λ i k l. so-far .same i (omega (arith, start x))))
+      ∙ axis-same (limitIn now) (limitIn old) (axisStart q j x) (axisBits q x) g (λ i k l. so-far .same i (omega (arith, axis-inside q j label x))))
 
   pub reaches-more : Filling q old new (j + 1)
   reaches-more = rw add-one (record {
     same = λ i h. filled .before i (omega arith) ∙ so-far .same i h;
+    later = λ i h. filled .others i (omega arith) (inr h) ∙ so-far .later i (omega arith);
     made = record {
       size = filled .size ∙ so-far .made .size;
+      own = λ i h.
+          let few : i < mostBits = omega (arith, label, suc-mul j q) in
+          filled .before i (omega arith) ∙ so-far .same i few;
       first = λ level h. firsts level h (decLt level (suc j));
       entry = λ i h x g k. each i h x g k (decLt i j);
     };

@@ -45,12 +45,17 @@ axisStart q j imaginary = j * q + (q - q / 2)
 unfoldable pub axisReach : (ℕ → ℕ) → ℕ → ℕ → ℕ → ℕ
 axisReach limit at w g = widestOf (λ i. bitOf w g (i - at)) limit at w
 
--- The array has, of the first k streams, what the limits of their bits give
+-- Stream j's entries are what the limits of its bits give
+abbrev pub StreamRight : ℕ → (ℕ → ℕ) → List ℕ → ℕ → Type 0
+StreamRight q limit limits j =
+    (x : Axis) → (g : ℕ) → g < 2 ^ axisBits q x → getD limits (entryPlace j x + g) 0 ≡ axisReach limit (axisStart q j x) (axisBits q x) g
+
+-- The array has, of the first k streams, their bits' limits and what these give
 pub record Reaches (q : ℕ) (limit : ℕ → ℕ) (limits : List ℕ) (k : ℕ) : Type 0 where
   pub size : length limits ≡ limitsSize
+  pub own : (i : ℕ) → i < k * q → limitIn limits i ≡ limit i
   pub first : (level : ℕ) → level ≤ k → getD limits (firstPlace level) 0 ≡ widestOf (λ _. true) limit 0 (level * q)
-  pub entry : (j : ℕ) → j < k → (x : Axis) → (g : ℕ) → g < 2 ^ axisBits q x
-      → getD limits (entryPlace j x + g) 0 ≡ axisReach limit (axisStart q j x) (axisBits q x) g
+  pub entry : (j : ℕ) → j < k → StreamRight q limit limits j
 
 -- The widest limit of those of stream j's bits that are 1 in a symbol, as the array has it
 unfoldable pub streamReach : ℕ → List ℕ → ℕ → ℕ → ℕ
@@ -60,6 +65,10 @@ streamReach q limits j s =
 -- Symbol j of a label of m symbols of q bits
 abbrev pub symbolOf : ℕ → ℕ → ℕ → ℕ → ℕ
 symbolOf m q bits j = bits / 2 ^ ((m - suc j) * q) % 2 ^ q
+
+-- The entries of the streams whose symbols are 0 in a number are right, for the limits as they stand
+abbrev pub StandsFor : ℕ → ℕ → ℕ → List ℕ → Type 0
+StandsFor m q changed limits = (j : ℕ) → j < m → symbolOf m q changed j ≡ 0 → StreamRight q (limitIn limits) limits j
 
 -- The widest limit of those bits of the streams from `level` on that are 1 in `bits`
 unfoldable pub chosenReach : ℕ → ℕ → List ℕ → ℕ → ℕ → ℕ
@@ -71,11 +80,20 @@ pub record AxisFilled (old new : List ℕ) (at w to b : ℕ) : Type 0 where
   pub kept : (i : ℕ) → (i < to) ⊎ (to + 2 ^ w ≤ i) → getD new i 0 ≡ getD old i 0
   pub each : (g : ℕ) → g < 2 ^ b → getD new (to + g) 0 ≡ axisReach (limitIn old) (at + (w - b)) b g
 
+-- A place that is not one of stream j's entries
+abbrev pub Elsewhere : ℕ → ℕ → Type 0
+Elsewhere j i = (i < entryPlace j real) ⊎ (entryPlace (suc j) real ≤ i)
+
+-- Stream j's entries: the other places are as before
+pub record AxesFilled (q : ℕ) (old new : List ℕ) (j : ℕ) : Type 0 where
+  pub size : length new ≡ length old
+  pub kept : (i : ℕ) → Elsewhere j i → getD new i 0 ≡ getD old i 0
+  pub entry : StreamRight q (limitIn old) new j
+
 -- Stream j's entries and the widest limit of the streams up to it
 pub record StreamFilled (q : ℕ) (old new : List ℕ) (j : ℕ) : Type 0 where
   pub size : length new ≡ length old
   pub before : (i : ℕ) → i ≤ firstPlace j → getD new i 0 ≡ getD old i 0
-  pub earlier : (i : ℕ) → axisEntries ≤ i → i < entryPlace j real → getD new i 0 ≡ getD old i 0
+  pub others : (i : ℕ) → axisEntries ≤ i → Elsewhere j i → getD new i 0 ≡ getD old i 0
   pub first : getD new (firstPlace (suc j)) 0 ≡ max (getD old (firstPlace j) 0) (widestOf (λ _. true) (limitIn old) (j * q) q)
-  pub entry : (x : Axis) → (g : ℕ) → g < 2 ^ axisBits q x
-      → getD new (entryPlace j x + g) 0 ≡ axisReach (limitIn old) (axisStart q j x) (axisBits q x) g
+  pub entry : StreamRight q (limitIn old) new j

@@ -7,7 +7,7 @@ ghost use Prim.Native.Nat.{_+_, _*_, _-_, _<_, _≤_, _^_, max};
 ghost use lib.ListN.{length, getD};
 ghost use Rattle.model.specs.Block.{mostStreams, mostWidth, mostBits};
 ghost use Rattle.metric.specs.Parts.{axisWidth, filledFrom};
-ghost use Rattle.reach.specs.Reach.{limitIn, limitsSize, AxisFilled, StreamFilled, Reaches, streamReach, chosenReach};
+ghost use Rattle.reach.specs.Reach.{limitIn, limitsSize, StreamRight, StandsFor, AxisFilled, AxesFilled, StreamFilled, Reaches, streamReach, chosenReach};
 
 // The places of the array of limits: first a label's bits, then, from here on, the widest limits of the first streams;
 pub const FIRST: usize = 24;
@@ -19,6 +19,9 @@ pub const ENTRIES: usize = 32;
 pub const STREAM: usize = 2 * SPAN;
 
 pub const LIMITS: usize = ENTRIES + 4 * STREAM;
+
+// What `fill` is told where the limits of every stream are changed.
+pub const ALL: u32 = 4294967295;
 
 // How many labels the widest axis has.
 const SPAN: usize = AXES / 2;
@@ -83,29 +86,44 @@ pub fn stream_reach(q: usize, limits: &[u64], j: usize, symbol: usize) -> u64
     larger(re, im)
 }
 
-// What the limits of stream j's bits give: the entries of its two axes, and the widest limit of the streams up to it.
-fn fill_stream(q: usize, limits: &mut [u64], j: usize)
-    requires { ⌜ (q ≤ mostWidth) × (j < mostStreams) × (j * q + q ≤ mostBits) × (length (now limits) ≡ limitsSize) ⌝ }
-    ensures { λ _. ⌜ StreamFilled q (now (limits .entry)) (now (limits .exit)) j ⌝ }
+// The entries of stream j's two axes, where one of its limits is changed since they were made; `changed` is then not 0.
+fn fill_axes(q: usize, limits: &mut [u64], j: usize, changed: usize)
+    requires { ⌜ (q ≤ mostWidth) × (j < mostStreams) × (j * q + q ≤ mostBits) × (length (now limits) ≡ limitsSize)
+        × (changed ≡ 0 → StreamRight q (limitIn (now limits)) (now limits) j) ⌝ }
+    ensures { λ _. ⌜ AxesFilled q (now (limits .entry)) (now (limits .exit)) j ⌝ }
 {
+    if changed == 0 {
+        return;
+    }
     let w = q - q / 2;
     let at = ENTRIES + j * (2 * SPAN);
     fill_axis(limits, j * q, w, at);
     fill_axis(limits, j * q + w, q / 2, at + SPAN);
+}
+
+// What the limits of stream j's bits give: the entries of its two axes, and the widest limit of the streams up to it.
+fn fill_stream(q: usize, limits: &mut [u64], j: usize, changed: usize)
+    requires { ⌜ (q ≤ mostWidth) × (j < mostStreams) × (j * q + q ≤ mostBits) × (length (now limits) ≡ limitsSize)
+        × (changed ≡ 0 → StreamRight q (limitIn (now limits)) (now limits) j) ⌝ }
+    ensures { λ _. ⌜ StreamFilled q (now (limits .entry)) (now (limits .exit)) j ⌝ }
+{
+    fill_axes(q, limits, j, changed);
     let own = stream_reach(q, limits, j, (1 << q) - 1);
     let widest = larger(limits[FIRST + j], own);
     limits[FIRST + (j + 1)] = widest;
 }
 
-// What the limits of m streams' bits give, behind them.
-pub fn fill(m: usize, q: usize, limits: &mut [u64])
-    requires { ⌜ (m ≤ mostStreams) × (q ≤ mostWidth) × (m * q ≤ mostBits) × (length (now limits) ≡ limitsSize) ⌝ }
+// What the limits of m streams' bits give, behind them. The entries of a stream whose symbol in `changed` is 0 must be right already.
+pub fn fill(m: usize, q: usize, limits: &mut [u64], changed: u32)
+    requires { ⌜ (m ≤ mostStreams) × (q ≤ mostWidth) × (m * q ≤ mostBits) × (length (now limits) ≡ limitsSize)
+        × StandsFor m q changed (now limits) ⌝ }
     ensures { λ _. ⌜ Reaches q (limitIn (now (limits .entry))) (now (limits .exit)) m ⌝ }
 {
     limits[FIRST] = 0;
     let mut j = 0;
     while j < m {
-        fill_stream(q, limits, j);
+        let symbol = metric::symbol_at(changed, q, (m - (j + 1)) * q);
+        fill_stream(q, limits, j, symbol);
         j += 1;
     }
 }

@@ -3,7 +3,7 @@ pub mod Limits
 pub mod Renewed
 pub mod Leaves
 pub mod Rows
-pub mod Children
+pub mod Kids
 pub mod Levels
 pub mod Search
 pub mod Values

@@ -4,11 +4,12 @@ use mathlib.Core.Path.{_≡_, refl, sym, _∙_, ap, ap₂, subst}
 use mathlib.Core.Bool.{Bool, true, false, cond, _&&_, _||_}
 use mathlib.Core.List.{List}
 use mathlib.Core.Logic.{⊎-elim}
+use native.Mathlib.Decide.{decLt}
 use native.Mathlib.Nat.{add-mul, le-trans, mod-lt}
 use native.Mathlib.Omega.{arith}
 use lib.Bits.{bitXor, xor-lt}
 use lib.Dec.{leb, ltb}
-use borrow.Author.Tests.{lt-ltb, le-ltb, lt-leb, ltb-true, ltb-false}
+use borrow.Author.Tests.{lt-ltb, le-ltb, le-leb, lt-leb, ltb-true, ltb-false}
 use lib.ListN.{length, getD, drop}
 use lib.Seq.{getD-take, getD-drop}
 use lib.IntN.{ℤ, pos, negsuc}
@@ -21,12 +22,12 @@ use Rattle.model.proofs.Numbers.{first-half}
 use Rattle.metric.specs.Parts.{axisWidth, span, bitOf}
 use Rattle.metric.specs.Tables.{Axis, axisBits}
 use Rattle.metric.specs.Tables.Axis.{real, imaginary}
-use Rattle.pruning.specs.Program.{Taken, opens, reachOf, reaches, lets, passing}
+use Rattle.pruning.specs.Program.{above, Taken, opens, reachOf, reaches, lets, passing}
 use Rattle.pruning.specs.Reach.{widestOf}
 use Rattle.pruning.proofs.Reach.{ltb-max, any-widest, widest-split, widest-same}
 use Rattle.cutoff.specs.Cut.{symbolReach}
 use Rattle.reach.specs.Reach.{firstPlace, entryPlace, entriesOf, axisStart, axisReach, Reaches, streamReach, chosenReach, symbolOf}
-use Rattle.reach.proofs.Passing.{chosen-is, chosen-child, xor-opposite}
+use Rattle.reach.proofs.Passing.{entries-widest, stream-wider, chosen-is, chosen-child, xor-opposite}
 use Rattle.search.specs.Limits.{upOf, limitAt, Limited, passesAt, passesBy, opposite, WouldCut}
 
 up-is : (d : ℕ) (z : ℤ) → ltZ (pos d) z ≡ ltb d (upOf z)
@@ -56,6 +57,7 @@ pub reaches-same : {q k : ℕ} {f g : ℕ → ℕ} {limits : List ℕ} → ((i :
 unfolding axisReach
 reaches-same {q} {k} {f} {g} {limits} same r = record {
   size = r .size;
+  own = λ i h. r .own i h ∙ same i h;
   first = λ level h. r .first level h
       ∙ widest-same _ _ f g 0 (level * q) (λ i _ l. same i (omega (arith, part level (k - level) (omega arith))));
   entry = λ j h x e l. r .entry j h x e l
@@ -92,15 +94,26 @@ entries-reach q limits j s few h =
         let half : q / 2 ≤ axisWidth = omega arith in
         omega (arith, mod-lt s (pow-pos (q / 2)), pow-mono half)
 
-module _ (v : Vector) (t : Taken) (limits : List ℕ) (l : Limited v t limits) (m : ℕ) (em : m ≡ length (v .rows)) where
+-- An array that has what the limits give may be lent where limits are asked
+pub reached-limited : {v : Vector} {t : Taken} {limits : List ℕ} → v .width ≤ mostWidth
+    → Reaches (v .width) (limitAt v t) limits (length (v .rows)) → Limited v t limits
+reached-limited few made = record {
+  asked = record {
+    size = made .size;
+    widest = λ j h. entries-widest made j h few;
+    wider = λ j s h l. stream-wider made j s h l;
+  };
+  exact = λ _. made;
+}
+
+-- The pass test by such an array
+module _ (v : Vector) (t : Taken) (limits : List ℕ) (m : ℕ) (em : m ≡ length (v .rows))
+    (reached : Reaches (v .width) (limitAt v t) limits m) where
   abbrev n : ℕ
   n = labelBits v
 
   abbrev limit : ℕ → ℕ
   limit = limitAt v t
-
-  reached : Reaches (v .width) limit limits m
-  reached = rw em l
 
   -- The bits that are open at a node: all that are not chosen, and the chosen ones opposite to m's
   module _ (level bits : ℕ) (inside : level ≤ m) where
@@ -132,15 +145,26 @@ module _ (v : Vector) (t : Taken) (limits : List ℕ) (l : Limited v t limits) (
         rw (e, em) (ap (λ (b : Bool). cond b (limit i) 0) (sym (xor-opposite n bits (t .label) i))))
         ∙ sym (chosen-is m (v .width) reached level (bitXor bits (t .label)) inside))
 
-    -- The pass test by what the limits give is document 01's
-    pub passing-by : (d : ℕ) → passing v t d free bits ≡ passesBy m (v .width) (t .label) (t .best) limits d level bits
+    passing-exact : (d : ℕ) → passing v t d free bits ≡ passesBy m (v .width) (t .label) (t .best) limits d level bits
     unfolding passing lets passesAt
-    passing-by d =
+    passing-exact d =
         ap (λ (x : Bool). leb d (t .best) || x)
         (any-upFrom _ _ 0 n (λ i h. ap (λ (x : Bool). opened i && x) (reaches-limit v t d i))
         ∙ any-widest opened limit d 0 n
         ∙ ap (ltb d) (ap (widestOf opened limit 0) split ∙ widest-split opened limit 0 free ((m - level) * v .width))
         ∙ ltb-max d _ _ ∙ ap₂ (λ (x y : ℕ). ltb d x || ltb d y) unchosen chosen-bits)
+
+-- The limits as they are kept
+module _ (v : Vector) (t : Taken) (limits : List ℕ) (l : Limited v t limits) (m : ℕ) (em : m ≡ length (v .rows)) where
+  -- The pass test by what the limits give is document 01's; before the first leaf everything passes both
+  pub passing-by : (level bits : ℕ) → level ≤ m → (d : ℕ) → d ≤ above
+      → passing v t d (level * v .width) bits ≡ passesBy m (v .width) (t .label) (t .best) limits d level bits
+  unfolding passing passesAt
+  passing-by level bits inside d low = go (decLt (t .best) above)
+    where
+      go : Dec (t .best < above) → passing v t d (level * v .width) bits ≡ passesBy m (v .width) (t .label) (t .best) limits d level bits
+      go (yes h) = passing-exact v t limits m em (subst (Reaches (v .width) (limitAt v t) limits) (sym em) (l .exact h)) level bits inside d
+      go (no h) = let e : leb d (t .best) ≡ true = le-leb d (t .best) (omega arith) in rw e
 
   -- A node's child
   module _ (level node s d : ℕ) (inner : level ≡ 0 → ⊥) (inside : level ≤ m) (placed : node < 2 ^ ((m - level) * v .width))
@@ -173,11 +197,12 @@ module _ (v : Vector) (t : Taken) (limits : List ℕ) (l : Limited v t limits) (
 
     -- A child that would be cut fails the pass test
     pub would-cut : (chosen : ℕ) → chosen ≡ opposite m (v .width) limits (t .label) level node
-        → WouldCut m (v .width) level chosen (t .label) (t .best) limits d s → passing v t d ((level - 1) * v .width) child ≡ false
+        → WouldCut m (v .width) level chosen (t .label) (t .best) limits d s → d ≤ above
+        → passing v t d ((level - 1) * v .width) child ≡ false
     unfolding passesAt
-    would-cut chosen e w =
+    would-cut chosen e w low =
         let own-low : streamReach (v .width) limits (level - 1) diff ≤ d =
         rw (← entries-reach (v .width) limits (level - 1) diff few (xor-lt (v .width) s own symbol inside-own)) (w .above-own) in
-        passing-by (level - 1) child (omega arith) d
+        passing-by (level - 1) child (omega arith) d low
         ∙ ap₂ _||_ (lt-leb d (t .best) (omega (arith, w .above-base)))
         (ap₂ _||_ (le-ltb d _ (omega (arith, w .above-base))) (le-ltb d _ (rw child-reach (omega (arith, own-low, w .above-base, e)))))

@@ -7,7 +7,7 @@ use mathlib.Core.Logic.{_⊎_, ⊎-elim}
 use native.Mathlib.Nat.{le-of-lt, le-trans, lt-of-le-of-lt, min-eq-left}
 use native.Mathlib.Omega.{arith}
 use borrow.Author.Tests.{le-ltb}
-use lib.ListN.{length, getD, set, take}
+use lib.ListN.{length, getD, set, take, drop, take-append-drop}
 use lib.IntN.{ℤ}
 use Rattle.model.specs.Metric.{Vector}
 use Rattle.block.proofs.Places.{rows-count}
@@ -22,14 +22,13 @@ use Rattle.pruning.proofs.Bounds.{kept-falls, chosen-by, symbol-inside, key-bou
 use Rattle.pruning.proofs.Turns.{rest-start, rest-same, rest-done, rest-cut, rest-halted, rest-stopped, rest-onward}
 use Rattle.pruning.proofs.Early.{rest-beyond, below-shut}
 use Rattle.pruning.proofs.Counted.{count-same, below-counted}
-use Rattle.reach.proofs.Passing.{entries-widest, stream-wider}
 use Rattle.siblings.specs.Rows.{keyCount, RowLeast, Took}
 use Rattle.siblings.proofs.Rows.{row-least-front}
 use Rattle.siblings.proofs.Taking.{took-same}
 use Rattle.tally.specs.Tally.{oppositeReach, childPasses}
-use Rattle.search.specs.Limits.{vectorAt, passesAt, passesBy, opposite, Limited}
-use Rattle.search.specs.Expand.{LimitsAsked, Filled, Shut}
-use Rattle.search.specs.Turn.{behind, NextAsked, nextOf, NodeIn, boundsOf, BelowCounted, NodeAsked, Renewal}
+use Rattle.search.specs.Limits.{vectorAt, passesAt, passesBy, opposite, LimitsAsked, Limited}
+use Rattle.search.specs.Expand.{NodeIn, kidOf, Shut, boundsOf, BelowCounted, Filled}
+use Rattle.search.specs.Turn.{behind, NextAsked, nextOf, NodeAsked, Renewal}
 use Rattle.search.specs.declared.Node.{Node}
 use Rattle.search.proofs.Rows.{ranged, key-by}
 use Rattle.search.proofs.Values.{rest-few, keys-rise, room-for, room-below}
@@ -71,8 +70,11 @@ module _ {m q clip : ℕ} {numbers : List ℤ} {n : Node} (w : NodeIn m q clip n
   pub places-few : keyCount q ≤ keyCount mostWidth
   places-few = keys-rise (w .asked .vector .bits)
 
+  pub partial-under : n .partial < above
+  partial-under = lt-of-le-of-lt (w .bounded) (partial-low v in-range (n .level))
+
   pub partial-few : n .partial ≤ above
-  partial-few = le-of-lt (lt-of-le-of-lt (w .bounded) (partial-low v in-range (n .level)))
+  partial-few = le-of-lt partial-under
 
   pub chosen-few : (m - n .level) * q ≤ mostBits
   chosen-few = rest-few (n .level) (w .asked .vector)
@@ -81,11 +83,7 @@ module _ {m q clip : ℕ} {numbers : List ℤ} {n : Node} (w : NodeIn m q clip n
   node-placed = subst (λ (x : ℕ). n .bits < 2 ^ x) (chosen-by v m (n .level) (sym streams)) (w .placed)
 
   pub limits-asked : (t : Taken) (limits : List ℕ) → Limited v t limits → LimitsAsked m q limits
-  limits-asked t limits limited = record {
-    size = limited .size;
-    widest = λ j inside. entries-widest limited j (omega (arith, streams)) (w .asked .vector .bits);
-    wider = λ j s inside h. stream-wider limited j s (omega (arith, streams)) h;
-  }
+  limits-asked t limits limited = subst (λ (k : ℕ). LimitsAsked k q limits) streams (limited .asked)
 
   -- A leaf is noted
   pub leaf-noted : (t : Taken) (allowance : ℕ) → n .level ≡ 0 → (count : ℕ) (stopped : Bool) → stopped ≡ false
@@ -104,10 +102,10 @@ module _ {m q clip : ℕ} {numbers : List ℤ} {n : Node} (w : NodeIn m q clip n
     pub row-inside : n .level - 1 < m
     row-inside = omega (arith, w .inside)
 
-    -- No key of a child is above the sentinel
-    pub filled-low : (keys : List ℕ) → Filled m q numbers n keys → (s : ℕ) → s < 2 ^ q → getD keys s 0 ≤ above
-    filled-low keys filled s h =
-        rw (filled .each s h, key-by m q numbers (w .asked .vector) clip (n .level - 1) (n .bits) (n .partial) s row-inside)
+    -- No child's partial metric is above the sentinel
+    pub kid-low : (s : ℕ) → kidOf m q numbers n s ≤ above
+    kid-low s =
+        rw (key-by m q numbers (w .asked .vector) clip (n .level - 1) (n .bits) (n .partial) s row-inside)
         (le-of-lt (lt-of-le-of-lt (key-bound v (n .level) some within in-range (n .partial) (w .bounded) (n .bits) s) (partial-low v in-range (n .level - 1))))
 
     -- All children would be cut: the search below the node changes nothing
@@ -128,7 +126,7 @@ module _ {m q clip : ℕ} {numbers : List ℤ} {n : Node} (w : NodeIn m q clip n
               let e = child-by v (n .level) some within m (n .bits) s (s * 2 ^ ((m - n .level) * q) + n .bits) (sym streams) refl in
               rw (← key-by m q numbers (w .asked .vector) clip (n .level - 1) (n .bits) (n .partial) s row-inside, ← e)
               (would-cut v t limits limited m (sym streams) (n .level) (n .bits) s _ some (w .inside) node-placed (w .asked .vector .bits) h
-              (n .chosen) opposed (cuts s h))
+              (n .chosen) opposed (cuts s h) (kid-low s))
 
     -- Before the first child, with the keys of all
     pub start : (t : Taken) (limits : List ℕ) → t .best ≤ above → Limited v t limits
@@ -157,7 +155,7 @@ module _ {m q clip : ℕ} {numbers : List ℤ} {n : Node} (w : NodeIn m q clip n
 -- As many children of a node pass, below which nothing does: the search below it counts them, as far as the allowance goes
 module _ {m q clip : ℕ} {numbers : List ℤ} {n : Node} (w : NodeIn m q clip numbers n) (t : Taken) (limits : List ℕ)
     (limited : Limited (vectorAt m q clip numbers) t limits) (opposed : n .chosen ≡ opposite m q limits (t .label) (n .level) (n .bits))
-    {keys : List ℕ} {count : ℕ} (c : BelowCounted m q numbers n (t .label) (t .best) limits keys count) where
+    {count : ℕ} (c : BelowCounted m q numbers n (t .label) (t .best) limits count) where
   inner : 0 < n .level
   inner = omega (arith, c .above-leaves)
 
@@ -166,18 +164,18 @@ module _ {m q clip : ℕ} {numbers : List ℤ} {n : Node} (w : NodeIn m q clip n
   kid s = record {
     level = n .level - 1;
     bits = s * 2 ^ ((m - n .level) * q) + n .bits;
-    partial = getD keys s 0;
+    partial = kidOf m q numbers n s;
     chosen = max (oppositeReach m q (t .label) limits (n .level - 1) s) (n .chosen);
   }
 
   module _ (s : ℕ) (h : s < 2 ^ q) where
-    kid-key : getD keys s 0 ≡ keyOf (v w) (n .level - 1) (n .bits) (n .partial) s
-    kid-key = c .filled .each s h ∙ key-by m q numbers (w .asked .vector) clip (n .level - 1) (n .bits) (n .partial) s (row-inside w inner)
+    kid-key : kidOf m q numbers n s ≡ keyOf (v w) (n .level - 1) (n .bits) (n .partial) s
+    kid-key = key-by m q numbers (w .asked .vector) clip (n .level - 1) (n .bits) (n .partial) s (row-inside w inner)
 
     kid-is : kid s .bits ≡ childOf (v w) (n .level - 1) (n .bits) s
     kid-is = child-by (v w) (n .level) (some w inner) (within w) m (n .bits) s (kid s .bits) (sym (streams w)) refl
 
-    kid-bound : getD keys s 0 ≤ largestPartial (v w) (n .level - 1)
+    kid-bound : kidOf m q numbers n s ≤ largestPartial (v w) (n .level - 1)
     kid-bound = rw kid-key (key-bound (v w) (n .level) (some w inner) (within w) (in-range w) (n .partial) (w .bounded) (n .bits) s)
 
     kid-in : NodeIn m q clip numbers (kid s)
@@ -195,16 +193,17 @@ module _ {m q clip : ℕ} {numbers : List ℤ} {n : Node} (w : NodeIn m q clip n
         (w .asked .vector .bits) h))
 
     -- Its test is the definition's
-    kid-passes : childPasses m q (n .level) (boundsOf (t .best) limits n) (t .label) limits keys s
+    kid-passes : childPasses m q (n .level) (boundsOf (t .best) limits n) (t .label) limits (kidOf m q numbers n) s
         ≡ testOf (v w) (n .level - 1) (n .bits) s (keyOf (v w) (n .level - 1) (n .bits) (n .partial) s) t
     unfolding childPasses passesAt
     kid-passes =
-        ap (λ (x : ℕ). passesAt (t .best) limits x (getD keys s 0) (n .level - 1)) kid-opposed
-        ∙ sym (passing-by (v w) t limits limited m (sym (streams w)) (n .level - 1) (kid s .bits) (omega (arith, w .inside)) (getD keys s 0))
+        ap (λ (x : ℕ). passesAt (t .best) limits x (kidOf m q numbers n s) (n .level - 1)) kid-opposed
+        ∙ sym (passing-by (v w) t limits limited m (sym (streams w)) (n .level - 1) (kid s .bits) (omega (arith, w .inside)) (kidOf m q numbers n s)
+        (kid-low w inner s))
         ∙ ap₂ (λ (x y : ℕ). passing (v w) t x ((n .level - 1) * q) y) kid-key kid-is
 
     -- Below it nothing changes
-    kid-idle : (allowance : ℕ) → childPasses m q (n .level) (boundsOf (t .best) limits n) (t .label) limits keys s ≡ true
+    kid-idle : (allowance : ℕ) → childPasses m q (n .level) (boundsOf (t .best) limits n) (t .label) limits (kidOf m q numbers n) s ≡ true
         → Idle (v w) allowance (n .level - 1) (childOf (v w) (n .level - 1) (n .bits) s) (keyOf (v w) (n .level - 1) (n .bits) (n .partial) s) t
     kid-idle allowance e before =
         sym
@@ -243,7 +242,7 @@ module _ {m q clip : ℕ} {numbers : List ℤ} {allowance : ℕ} {n : Node} {who
     inside = w .inside;
     few = chosen-few w;
     placed = node-placed w;
-    size = h .limited .size;
+    size = h .limited .asked .size;
     rows = h .rows;
   }
 
@@ -295,7 +294,7 @@ module _ {m q clip : ℕ} {numbers : List ℤ} {allowance : ℕ} {n : Node} {who
         ≡ passing at (k .taken) d ((n .level - 1) * q) (next .bits)
     passes-is =
         ap (λ (x : ℕ). passesAt (k .taken .best) limits x d (n .level - 1)) opposed
-        ∙ sym (passing-by at (k .taken) limits (h .limited) m (sym (streams w)) (n .level - 1) (next .bits) (omega (arith, w .inside)) d)
+        ∙ sym (passing-by at (k .taken) limits (h .limited) m (sym (streams w)) (n .level - 1) (next .bits) (omega (arith, w .inside)) d key-low)
 
     -- The children end
     pub ended : passesAt (k .taken .best) limits (n .chosen) (next .partial) (n .level) ≡ false → k ≡ whole
@@ -308,7 +307,7 @@ module _ {m q clip : ℕ} {numbers : List ℤ} {allowance : ℕ} {n : Node} {who
       where
         node-fails : passing at (k .taken) d (n .level * q) (n .bits) ≡ false
         node-fails =
-            passing-by at (k .taken) limits (h .limited) m (sym (streams w)) (n .level) (n .bits) (w .inside) d
+            passing-by at (k .taken) limits (h .limited) m (sym (streams w)) (n .level) (n .bits) (w .inside) d key-low
             ∙ ap (λ (x : ℕ). passesAt (k .taken .best) limits x d (n .level)) (sym (h .opposed)) ∙ fails
 
     -- The allowance is used up
@@ -368,17 +367,17 @@ module _ {m q clip : ℕ} {numbers : List ℤ} {allowance : ℕ} {n : Node} {who
         Found u = u ≡ below at allowance (next .level) (next .bits) (next .partial) (keptOf (k .count + 1) false (k .taken))
 
         -- None of its own children passes, or some do, below which nothing does
-        pub left : {lower : List ℕ} {count : ℕ}
-            → ((count ≡ 0) × (0 < next .level) × Shut m q numbers next (k .taken .label) (k .taken .best) limits)
-            ⊎ BelowCounted m q numbers next (k .taken .label) (k .taken .best) limits lower count
+        pub left : 0 < next .level → {count : ℕ}
+            → ((count ≡ 0) × Shut m q numbers next (k .taken .label) (k .taken .best) limits)
+            ⊎ BelowCounted m q numbers next (k .taken .label) (k .taken .best) limits count
             → Found (countedTo allowance (k .count + 1 + count) (k .taken))
-        left {lower} {count} =
+        left inner {count} =
             let few : k .count + 1 ≤ allowance = omega arith in
             ⊎-elim
             (λ x.
             let total : k .count + 1 + count ≡ k .count + 1 = omega (arith, x .0) in
             rw (total, min-eq-left few, le-ltb allowance (k .count + 1) few)
-            (shut child-in (x .1) (k .taken) limits (h .limited) opposed allowance (x .2) (k .count + 1) false refl))
+            (shut child-in inner (k .taken) limits (h .limited) opposed allowance (x .1) (k .count + 1) false refl))
             (λ x. sym (counted-below child-in (k .taken) limits (h .limited) opposed x allowance (k .count + 1) few))
 
         -- and the search goes on
@@ -426,3 +425,12 @@ module _ {m q clip : ℕ} {numbers : List ℤ} {allowance : ℕ} {n : Node} {who
                 limited = l;
                 opposed = e .chosen-is;
               })
+
+          -- The same where nothing is put there: the child is a leaf
+          pub onward-here : u .stopped ≡ false → {limits′ : List ℕ} → Limited at (u .taken) limits′
+              → (new : Node) → Renewal m q (u .taken .label) limits′ n new
+              → Searching m q clip numbers allowance new whole (tried + 1) after u limits′
+          onward-here x {limits′} l new e =
+              let same = take-append-drop (keyCount q) after in
+              subst (λ (l : List ℕ). Searching m q clip numbers allowance new whole (tried + 1) l u limits′) same
+              (onward x l (drop (keyCount q) after) (ap length same) new e)

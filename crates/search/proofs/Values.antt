@@ -1,27 +1,33 @@
 -- The soft values that code writes are the model's, and so is what a search of one vector returns.
-use Prim.Native.Nat.{ℕ, suc, _+_, _-_, _*_, _/_, _^_, _≤_, _<_}
-use mathlib.Core.Path.{_≡_, refl, sym, _∙_, ap, ap₂}
+use Prim.Native.Nat.{ℕ, suc, _+_, _-_, _*_, _/_, _%_, _^_, _≤_, _<_}
+use mathlib.Core.Path.{_≡_, refl, sym, _∙_, ap, ap₂, subst}
 use mathlib.Core.Bool.{Bool}
 use mathlib.Core.Logic.{⊎-elim}
 use mathlib.Core.List.{List, map, _++_}
-use native.Mathlib.Nat.{le-refl, le-trans, mul-le-mul, add-le-add, suc-mul}
+use native.Mathlib.Nat.{le-refl, le-trans, mul-le-mul, add-le-add, suc-mul, mod-lt}
 use native.Mathlib.Omega.{arith}
 use lib.IntN.{ℤ, natAbs}
-use lib.ListN.{length, getD, set, take, drop, replicate, length-replicate}
+use lib.ListN.{length, getD, set, take, drop, replicate, length-replicate, getD-replicate}
+use lib.Seq.{getD-take, getD-drop}
 use lib.Pow.{pow-pos, pow-mono}
 use Rattle.model.specs.Metric.{Vector, labelBits, priorAt}
 use Rattle.model.specs.Soft.{softValue, places}
-use Rattle.model.specs.Block.{Answer, answer, mostBits}
+use Rattle.model.specs.Block.{Answer, answer, mostStreams, mostWidth, mostBits}
 use Rattle.model.proofs.Bounds.{largest-pair}
+use Rattle.model.proofs.Numbers.{first-half}
 use Rattle.block.proofs.Places.{rows-count, all-priors-at}
 use Rattle.metric.specs.Rows.{VectorAsked}
-use Rattle.metric.specs.Parts.{filled}
+use Rattle.metric.specs.Parts.{axisWidth, span, filled}
+use Rattle.metric.specs.Tables.{axisBits}
+use Rattle.metric.specs.Tables.Axis.{real, imaginary}
+use Rattle.metric.proofs.Tables.{axis-few}
 use Rattle.metric.proofs.Filled.{filled-more, filled-same}
 use Rattle.pruning.specs.Program.{above, sideOf, Taken, takenOf, takenIn, limitsOf, keptOf, fresh, chosen, below, valueOf, answerOf}
 use Rattle.pruning.specs.Reach.{widestOf}
-use Rattle.reach.specs.Reach.{chosenReach}
+use Rattle.cutoff.specs.Cut.{WidestLast}
+use Rattle.reach.specs.Reach.{limitsSize, firstPlace, entryPlace, entriesOf, streamReach, chosenReach}
 use Rattle.siblings.specs.Rows.{keyCount}
-use Rattle.search.specs.Limits.{vectorAt, SearchAsked, minimaSize, keyPlaces, Renewed, opposite}
+use Rattle.search.specs.Limits.{vectorAt, SearchAsked, minimaSize, keyPlaces, LimitsAsked, opposite}
 use Rattle.search.specs.Turn.{NodeAsked}
 use Rattle.search.specs.Values.{MinimaLow, Answered}
 use Rattle.pruning.proofs.Arrays.{part-length}
@@ -35,7 +41,7 @@ rest-few {m} {q} level h = let fewer : m - level ≤ m = omega arith in omega (a
 
 -- The keys of wider symbols are more
 pub keys-rise : {q w : ℕ} → q ≤ w → keyCount q ≤ keyCount w
-keys-rise {q} {w} h = let half : q - q / 2 ≤ w - w / 2 = omega arith in add-le-add (pow-mono h) (pow-mono half)
+keys-rise {q} {w} h = let half : q - q / 2 ≤ w - w / 2 = omega arith in omega (arith, pow-mono h, pow-mono half)
 
 -- Where there is room for the keys of some levels, there is for one
 pub room-for : (level q : ℕ) → 0 < level → (places : ℕ) → level * keyCount q ≤ places → keyCount q ≤ places
@@ -52,6 +58,44 @@ room-below level q some keys h =
 none-chosen : (m q : ℕ) (limits : List ℕ) (label : ℕ) → 0 ≡ opposite m q limits label m 0
 unfolding chosenReach widestOf
 none-chosen m q limits label = let e : m - m ≡ 0 = omega arith in rw e
+
+-- Limits that are all the same may be lent: none is wider than another
+module _ (m q a : ℕ) (streams : m ≤ mostStreams) (bits : q ≤ mostWidth) where
+  abbrev alike : List ℕ
+  alike = replicate limitsSize a
+
+  at : (i : ℕ) → i < limitsSize → getD alike i 0 ≡ a
+  at i h = getD-replicate limitsSize i a 0 h
+
+  entry-at : (j i : ℕ) → j < m → i < 2 * span → getD (entriesOf alike j) i 0 ≡ a
+  entry-at j i h k =
+      getD-take (2 * span) (drop (entryPlace j real) alike) i 0 k ∙ getD-drop (entryPlace j real) alike i 0
+      ∙ at (entryPlace j real + i) (omega arith)
+
+  widest-at : (j from w : ℕ) → j < m → from ≤ span → w ≤ axisWidth → WidestLast (entriesOf alike j) from w
+  widest-at j from w h k few g l =
+      omega (
+        arith,
+        entry-at j (from + g) h (omega (arith, pow-mono few)),
+        entry-at j (from + (2 ^ w - 1)) h (omega (arith, pow-mono few, pow-pos w)),
+      )
+
+  pub all-same : LimitsAsked m q alike
+  unfolding streamReach
+  all-same = record {
+    size = length-replicate limitsSize a;
+    widest = λ j h. record {
+      real = widest-at j 0 (axisBits q real) h (omega arith) (axis-few q real bits);
+      imaginary = widest-at j span (axisBits q imaginary) h (omega arith) (axis-few q imaginary bits);
+    };
+    wider = λ j s h l.
+        omega (
+          arith,
+          at (entryPlace j real + s / 2 ^ (q / 2)) (omega (arith, first-half q s l, pow-mono (axis-few q real bits))),
+          at (entryPlace j imaginary + s % 2 ^ (q / 2)) (omega (arith, mod-lt s (pow-pos (q / 2)), pow-mono (axis-few q imaginary bits))),
+          at (firstPlace (suc j)) (omega arith),
+        );
+  }
 
 -- M rows of Q bits make the label's bits
 pub bits-are : (m q clip : ℕ) (numbers : List ℤ) → m * q ≡ labelBits (vectorAt m q clip numbers)
@@ -89,29 +133,29 @@ module _ {m q clip : ℕ} {numbers : List ℤ} (h : SearchAsked m q clip numbers
       ⊎-elim (λ p. le-trans (mul-le-mul (p .1) (keys-rise (p .0))) (omega arith)) (λ p. mul-le-mul (p .1) (keys-rise (p .0)))
       (largest-pair q m (h .vector .bits) (h .vector .streams) (h .vector .label))
 
-  -- The limits before the first leaf
-  module _ {minima : List ℕ} (r : Renewed (vectorAt m q clip numbers) 0 above (replicate minimaSize above) minima) where
-    pub root-fresh : takenIn 0 above minima ≡ fresh mostBits .taken
-    root-fresh = r .kept
+  -- Before the first leaf every place has the sentinel
+  abbrev pub untaken : List ℕ
+  untaken = replicate minimaSize above
 
-    pub root-whole : length minima ≡ minimaSize
-    root-whole = r .size ∙ length-replicate minimaSize above
-
-    -- What the walk from the root asks
-    pub root-asked : (keys : List ℕ) → m * keyCount q ≤ length keys
-        → NodeAsked m q clip numbers (record { level = m; bits = 0; partial = 0; chosen = 0 }) (takenIn 0 above minima) (limitsOf minima) keys
-    root-asked keys wide = record {
-      node = record {
-        asked = h;
-        inside = le-refl m;
-        placed = pow-pos (chosen (vectorAt m q clip numbers) m);
-        bounded = omega arith;
-      };
-      lowest = le-refl above;
-      limited = r .limited;
-      opposed = none-chosen m q (limitsOf minima) 0;
-      room = wide;
-    }
+  -- What the walk from the root asks
+  pub root-asked : (keys : List ℕ) → m * keyCount q ≤ length keys
+      → NodeAsked m q clip numbers (record { level = m; bits = 0; partial = 0; chosen = 0 }) (takenIn 0 above untaken) (limitsOf untaken) keys
+  root-asked keys wide = record {
+    node = record {
+      asked = h;
+      inside = le-refl m;
+      placed = pow-pos (chosen (vectorAt m q clip numbers) m);
+      bounded = omega arith;
+    };
+    lowest = le-refl above;
+    limited = record {
+      asked = subst (λ (k : ℕ). LimitsAsked k q (replicate limitsSize above)) (sym (rows-count m q numbers))
+          (all-same m q above (h .vector .streams) (h .vector .bits));
+      exact = λ found. absurd (omega arith);
+    };
+    opposed = none-chosen m q (limitsOf untaken) 0;
+    room = wide;
+  }
 
   -- What the walk from the root has kept at the end
   module _ (allowance : ℕ) {count : ℕ} {stopped : Bool} {t : Taken}

@@ -1,52 +1,98 @@
--- A node's children before the first of them is tried: their keys, or that all of them would be cut.
+-- A node's children before the first of them is tried: all would be cut, or so many pass and nothing below them, or their keys.
 use Prim.Native.Nat.{ℕ, suc, _-_, _*_, _≤_, _<_, _^_}
 use mathlib.Core.Path.{_≡_}
-use mathlib.Core.Bool.{Bool, true, false}
 use mathlib.Core.List.{List}
-use lib.IntN.{ℤ}
+use lib.IntN.{ℤ, natAbs}
 use lib.ListN.{length, getD}
-use Rattle.constellation.specs.Points.{Points}
-use Rattle.metric.specs.Rows.{VectorAsked, childOf}
+use Rattle.model.specs.Constellation.{bitsOf}
+use Rattle.constellation.specs.Points.{Points, complexOf}
+use Rattle.metric.specs.Rows.{rowAt, remainderOf, Measured, childOf}
 use Rattle.metric.specs.Tables.{Tabled}
-use Rattle.pruning.specs.Program.{above}
-use Rattle.cutoff.specs.Cut.{Widest}
-use Rattle.reach.specs.Reach.{limitsSize, firstPlace, entriesOf, streamReach}
+use Rattle.pruning.specs.Program.{above, largestPartial, chosen}
+use Rattle.cutoff.specs.declared.Bounds.{Bounds}
+use Rattle.reach.specs.Reach.{firstPlace}
 use Rattle.siblings.specs.Rows.{keyCount, RowLeast}
-use Rattle.search.specs.Limits.{WouldCut}
+use Rattle.tally.specs.Tally.{childPasses, IdleBelow, CountedTo}
+use Rattle.search.specs.Limits.{vectorAt, SearchAsked, LimitsAsked, WouldCut}
 use Rattle.search.specs.declared.Task.{Task}
 use Rattle.search.specs.declared.Node.{Node}
+use Rattle.search.specs.declared.Children.{Children}
+use Rattle.search.specs.declared.Children.the-variants.{Nothing, Number, Keys}
 
--- The limits are as many as they are; of each axis's entries the last is the widest, and no symbol's limits are wider than those of all
--- streams up to its own
-pub record LimitsAsked (m q : ℕ) (limits : List ℕ) : Type 0 where
-  pub size : length limits ≡ limitsSize
-  pub widest : (j : ℕ) → j < m → Widest q (entriesOf limits j)
-  pub wider : (j s : ℕ) → j < m → s < 2 ^ q → streamReach q limits j s ≤ getD limits (firstPlace (suc j)) 0
+-- A node of a vector that a search may be asked for
+pub record NodeIn (m q clip : ℕ) (numbers : List ℤ) (n : Node) : Type 0 where
+  pub asked : SearchAsked m q clip numbers
+  pub inside : n .level ≤ m
+  pub placed : n .bits < 2 ^ chosen (vectorAt m q clip numbers) (n .level)
+  pub bounded : n .partial ≤ largestPartial (vectorAt m q clip numbers) (n .level)
 
--- What measuring a node's children asks
+-- The partial metric of a node's child with symbol s
+abbrev pub kidOf : ℕ → ℕ → List ℤ → Node → ℕ → ℕ
+kidOf m q numbers n s = childOf m q numbers (n .level - 1) (n .bits) (n .partial) s
+
+-- What asking whether a child of a node may pass asks: `re` and `im` are what remains of y in the children's row
+pub record OpenAsked (t : Task) (numbers tables : List ℤ) (n : Node) (best : ℕ) (re im : ℤ) (limits : List ℕ) : Type 0 where
+  pub node : NodeIn (t .streams) (t .width) (t .clip) numbers n
+  pub inner : 0 < n .level
+  pub tabled : Tabled (t .streams) (t .width) numbers tables
+  pub limited : LimitsAsked (t .streams) (t .width) limits
+  pub lowest : best ≤ above
+  pub left : complexOf re im
+      ≡ remainderOf (t .width) (rowAt (t .streams) (t .width) numbers (n .level - 1))
+      (bitsOf ((t .streams - suc (n .level - 1)) * t .width) (n .bits))
+  pub low-re : natAbs re < 2 ^ 30
+  pub low-im : natAbs im < 2 ^ 30
+
+-- All children of a node would be cut
+abbrev pub Shut : ℕ → ℕ → List ℤ → Node → ℕ → ℕ → List ℕ → Type 0
+Shut m q numbers n label best limits =
+    (s : ℕ) → s < 2 ^ q → WouldCut m q (n .level) (n .chosen) label best limits (kidOf m q numbers n s) s
+
+-- What a node's children are held against
+abbrev pub boundsOf : ℕ → List ℕ → Node → Bounds
+boundsOf best limits n = record {
+  best = best;
+  free = getD limits (firstPlace (n .level - 1)) 0;
+  chosen = n .chosen;
+  cap = getD limits (firstPlace (n .level)) 0;
+}
+
+-- What asking by the parts of their axes asks, which are measured
+pub record PartsAsked (t : Task) (numbers : List ℤ) (n : Node) (best : ℕ) (limits axes : List ℕ) : Type 0 where
+  pub node : NodeIn (t .streams) (t .width) (t .clip) numbers n
+  pub limited : LimitsAsked (t .streams) (t .width) limits
+  pub lowest : best ≤ above
+  pub measured : Measured (t .streams) (t .width) numbers (n .level - 1) (n .bits) axes
+
+-- and what counting a node's children asks
+pub record BelowAsked (t : Task) (points numbers tables : List ℤ) (n : Node) (best : ℕ) (limits axes : List ℕ) : Type 0 where
+  pub parts : PartsAsked t numbers n best limits axes
+  pub tabled : Tabled (t .streams) (t .width) numbers tables
+  pub pointed : Points (t .width) points
+
+-- As many children of a node pass, and below each of these every child would be cut
+pub record BelowCounted (m q : ℕ) (numbers : List ℤ) (n : Node) (label best : ℕ) (limits : List ℕ) (count : ℕ) : Type 0 where
+  pub above-leaves : 2 ≤ n .level
+  pub counted : CountedTo (childPasses m q (n .level) (boundsOf best limits n) label limits (kidOf m q numbers n))
+      (IdleBelow m q (n .level) (n .bits) (boundsOf best limits n) label numbers limits (kidOf m q numbers n)) (2 ^ q) count
+
+-- What looking at a node's children asks
 pub record ExpandAsked (t : Task) (points numbers tables : List ℤ) (n : Node) (best : ℕ) (limits keys : List ℕ) : Type 0 where
-  pub vector : VectorAsked (t .streams) (t .width) numbers
+  pub node : NodeIn (t .streams) (t .width) (t .clip) numbers n
+  pub inner : 0 < n .level
   pub tabled : Tabled (t .streams) (t .width) numbers tables
   pub pointed : Points (t .width) points
   pub limited : LimitsAsked (t .streams) (t .width) limits
-  pub inside : n .level ≤ t .streams
-  pub low : n .partial ≤ above
   pub lowest : best ≤ above
   pub room : n .level * keyCount (t .width) ≤ length keys
 
 -- The keys of a node's children are filled in, and behind them the smallest of each row
 pub record Filled (m q : ℕ) (numbers : List ℤ) (n : Node) (keys : List ℕ) : Type 0 where
-  pub each : (s : ℕ) → s < 2 ^ q → getD keys s 0 ≡ childOf m q numbers (n .level - 1) (n .bits) (n .partial) s
+  pub each : (s : ℕ) → s < 2 ^ q → getD keys s 0 ≡ kidOf m q numbers n s
   pub rows : RowLeast q keys
 
--- All children of a node would be cut
-abbrev pub Shut : ℕ → ℕ → List ℤ → Node → ℕ → ℕ → List ℕ → Type 0
-Shut m q numbers n label best limits =
-    (s : ℕ) → s < 2 ^ q
-    → WouldCut m q (n .level) (n .chosen) label best limits (childOf m q numbers (n .level - 1) (n .bits) (n .partial) s) s
-
--- What is known of a node's children: all of them would be cut, or their keys are filled in. A leaf has none
-pub record Expanded (m q : ℕ) (numbers : List ℤ) (n : Node) (label best : ℕ) (limits new : List ℕ) (r : Bool) : Type 0 where
-  pub inner : r ≡ false → 0 < n .level
-  pub shut : r ≡ false → Shut m q numbers n label best limits
-  pub filled : r ≡ true → 0 < n .level → Filled m q numbers n new
+-- What is found of them
+abbrev pub Expanded : ℕ → ℕ → List ℤ → Node → ℕ → ℕ → List ℕ → List ℕ → Children → Type 0
+Expanded m q numbers n label best limits new Nothing = Shut m q numbers n label best limits
+Expanded m q numbers n label best limits new (Number count) = BelowCounted m q numbers n label best limits count
+Expanded m q numbers n label best limits new Keys = Filled m q numbers n new

@@ -1,5 +1,5 @@
 -- A bit's limit as one number, what a search asks of its vector, and the tests that the limits decide.
-use Prim.Native.Nat.{ℕ, _+_, _-_, _*_, _≤_, _<_, _^_, min, max}
+use Prim.Native.Nat.{ℕ, suc, _+_, _-_, _*_, _≤_, _<_, _^_, min, max}
 use mathlib.Core.Path.{_≡_}
 use mathlib.Core.Bool.{Bool, true, false, cond, _||_}
 use mathlib.Core.List.{List}
@@ -12,9 +12,9 @@ use Rattle.model.specs.Block.{mostWidth, mostBits, mostClip}
 use Rattle.block.specs.Contents.{rowsOf}
 use Rattle.metric.specs.Rows.{VectorAsked}
 use Rattle.metric.specs.Parts.{bitOf, filled}
-use Rattle.pruning.specs.Program.{Taken, takenIn, zerosOf, onesOf, limitsOf, reachOf, loweredAt}
-use Rattle.cutoff.specs.Cut.{Beyond}
-use Rattle.reach.specs.Reach.{limitsSize, firstPlace, entriesOf, symbolOf, Reaches, chosenReach}
+use Rattle.pruning.specs.Program.{above, Taken, takenIn, zerosOf, onesOf, limitsOf, reachOf, loweredAt}
+use Rattle.cutoff.specs.Cut.{Widest, Beyond}
+use Rattle.reach.specs.Reach.{limitsSize, firstPlace, entriesOf, streamReach, symbolOf, Reaches, chosenReach}
 use Rattle.siblings.specs.Rows.{keyCount}
 use Rattle.search.specs.declared.Task.{Task}
 
@@ -54,21 +54,33 @@ minimaSize = 2 * mostBits + limitsSize
 abbrev pub minimumPlace : Bool → ℕ → ℕ
 minimumPlace bit i = cond bit (mostBits + i) i
 
--- A label of metric d is taken into the minima of the first k of its n bits: each side is lowered by the bits of that side, and the limits
--- stay
+-- A label of metric d is taken into the minima of the first k of its n bits: each side is lowered by the bits of that side
 pub record NotedTo (n label d k : ℕ) (old new : List ℕ) : Type 0 where
   pub size : length new ≡ length old
   pub zeros : zerosOf new ≡ filled (loweredAt n false label d (zerosOf old)) k (zerosOf old)
   pub ones : onesOf new ≡ filled (loweredAt n true label d (onesOf old)) k (onesOf old)
-  pub limits : limitsOf new ≡ limitsOf old
+
+-- and into the limits of those that are 1 in `opposed`, and no others
+pub record NarrowedTo (n label opposed d k : ℕ) (old new : List ℕ) : Type 0 where
+  pub sides : NotedTo n label d k old new
+  pub limits : limitsOf new ≡ filled (loweredAt n true opposed d (limitsOf old)) k (limitsOf old)
 
 -- The places of the keys of all levels, three of the widest symbols or four of 6 bits
 abbrev pub keyPlaces : ℕ
 keyPlaces = 3 * keyCount mostWidth
 
--- The limits kept are those of what the leaves gave: the array has what they give
-abbrev pub Limited : Vector → Taken → List ℕ → Type 0
-Limited v t limits = Reaches (v .width) (limitAt v t) limits (length (v .rows))
+-- The limits are as many as they are; of each axis's entries the last is the widest, and no symbol's limits are wider than those of all
+-- streams up to its own
+pub record LimitsAsked (m q : ℕ) (limits : List ℕ) : Type 0 where
+  pub size : length limits ≡ limitsSize
+  pub widest : (j : ℕ) → j < m → Widest q (entriesOf limits j)
+  pub wider : (j s : ℕ) → j < m → s < 2 ^ q → streamReach q limits j s ≤ getD limits (firstPlace (suc j)) 0
+
+-- The limits kept are, once there is a best label, those of what the leaves gave: the array has what they give. Before, every child passes,
+-- and they may be any
+pub record Limited (v : Vector) (t : Taken) (limits : List ℕ) : Type 0 where
+  pub asked : LimitsAsked (length (v .rows)) (v .width) limits
+  pub exact : t .best < above → Reaches (v .width) (limitAt v t) limits (length (v .rows))
 
 -- The limits are renewed behind minima that stay
 pub record Renewed (v : Vector) (label best : ℕ) (old new : List ℕ) : Type 0 where

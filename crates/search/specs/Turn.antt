@@ -11,18 +11,16 @@ use Rattle.model.specs.Block.{mostStreams, mostWidth, mostBits}
 use Rattle.constellation.specs.Points.{Points}
 use Rattle.metric.specs.Tables.{Tabled}
 use Rattle.pruning.specs.Arrays.{leastFirst}
-use Rattle.pruning.specs.Program.{above, largestPartial, Taken, chosen}
-use Rattle.cutoff.specs.declared.Bounds.{Bounds}
+use Rattle.pruning.specs.Program.{above, Taken}
 use Rattle.reach.specs.Reach.{limitsSize, firstPlace, streamReach, symbolOf}
 use Rattle.siblings.specs.Rows.{keyCount, RowLeast, Took}
-use Rattle.tally.specs.Tally.{childPasses, IdleBelow, CountedTo}
-use Rattle.search.specs.Limits.{vectorAt, SearchAsked, Limited, passesAt, opposite}
-use Rattle.search.specs.Expand.{LimitsAsked, Filled, Shut}
+use Rattle.search.specs.Limits.{vectorAt, SearchAsked, LimitsAsked, Limited, passesAt, opposite}
+use Rattle.search.specs.Expand.{NodeIn, Shut, BelowCounted, Filled}
 use Rattle.search.specs.declared.Task.{Task}
 use Rattle.search.specs.declared.Node.{Node}
 use Rattle.search.specs.declared.Kept.{Kept}
 use Rattle.search.specs.declared.Turn.{Turn}
-use Rattle.search.specs.declared.Turn.the-variants.{Ended, Cut, Stop, Left, Enter}
+use Rattle.search.specs.declared.Turn.the-variants.{Ended, Cut, Stop, Left, Leaf, Enter}
 
 -- The keys behind a node's own, of the levels below
 abbrev pub behind : ℕ → List ℕ → List ℕ
@@ -55,13 +53,6 @@ pub record NextChild (m q : ℕ) (n : Node) (label : ℕ) (limits old new : List
   pub is : child ≡ nextOf m q n label limits old
   pub took : Took q old new (leastFirst old (2 ^ q))
 
--- A node of a vector that a search may be asked for
-pub record NodeIn (m q clip : ℕ) (numbers : List ℤ) (n : Node) : Type 0 where
-  pub asked : SearchAsked m q clip numbers
-  pub inside : n .level ≤ m
-  pub placed : n .bits < 2 ^ chosen (vectorAt m q clip numbers) (n .level)
-  pub bounded : n .partial ≤ largestPartial (vectorAt m q clip numbers) (n .level)
-
 -- What a turn asks: of the next child, too
 pub record AdvanceAsked (t : Task) (points numbers tables : List ℤ) (n : Node) (k : Kept) (limits keys : List ℕ) : Type 0 where
   pub child : NodeIn (t .streams) (t .width) (t .clip) numbers (nextOf (t .streams) (t .width) n (k .label) limits keys)
@@ -72,34 +63,9 @@ pub record AdvanceAsked (t : Task) (points numbers tables : List ℤ) (n : Node)
   pub lowest : k .best ≤ above
   pub room : n .level * keyCount (t .width) ≤ length keys
 
--- What a node's children are held against
-abbrev pub boundsOf : ℕ → List ℕ → Node → Bounds
-boundsOf best limits n = record {
-  best = best;
-  free = getD limits (firstPlace (n .level - 1)) 0;
-  chosen = n .chosen;
-  cap = getD limits (firstPlace (n .level)) 0;
-}
-
--- What counting a node's children asks, whose keys are filled in
-pub record BelowAsked (t : Task) (points numbers tables : List ℤ) (n : Node) (best : ℕ) (limits keys : List ℕ) : Type 0 where
-  pub node : NodeIn (t .streams) (t .width) (t .clip) numbers n
-  pub tabled : Tabled (t .streams) (t .width) numbers tables
-  pub pointed : Points (t .width) points
-  pub limited : LimitsAsked (t .streams) (t .width) limits
-  pub lowest : best ≤ above
-  pub filled : 0 < n .level → Filled (t .streams) (t .width) numbers n keys
-
--- As many children of a node pass, and below each of these every child would be cut
-pub record BelowCounted (m q : ℕ) (numbers : List ℤ) (n : Node) (label best : ℕ) (limits keys : List ℕ) (count : ℕ) : Type 0 where
-  pub above-leaves : 2 ≤ n .level
-  pub filled : Filled m q numbers n keys
-  pub counted : CountedTo (childPasses m q (n .level) (boundsOf best limits n) label limits keys)
-      (IdleBelow m q (n .level) (n .bits) (boundsOf best limits n) label numbers limits keys) (2 ^ q) count
-
 -- What a turn comes to. The children end where the node itself fails with the smallest key left; the child with that key fails, or passes
--- with the allowance used up, or is counted. Then all of its own children would be cut, or some pass below which nothing does, or their keys
--- stand behind the node's
+-- with the allowance used up, or is counted. Then it is a leaf, or all of its own children would be cut, or some pass below which nothing
+-- does, or their keys stand behind the node's
 module _ (t : Task) (numbers : List ℤ) (n : Node) (k : Kept) (limits old new : List ℕ) where
   abbrev child : Node
   child = nextOf (t .streams) (t .width) n (k .label) limits old
@@ -114,16 +80,17 @@ module _ (t : Task) (numbers : List ℤ) (n : Node) (k : Kept) (limits old new :
 
   abbrev pub LeftOver : ℕ → Type 0
   LeftOver count =
-      ((count ≡ 0) × (0 < child .level) × Shut (t .streams) (t .width) numbers child (k .label) (k .best) limits)
-      ⊎ BelowCounted (t .streams) (t .width) numbers child (k .label) (k .best) limits (behind (t .width) new) count
+      ((count ≡ 0) × Shut (t .streams) (t .width) numbers child (k .label) (k .best) limits)
+      ⊎ BelowCounted (t .streams) (t .width) numbers child (k .label) (k .best) limits count
 
   abbrev pub Advanced : Turn → Type 0
   Advanced Ended = passesAt (k .best) limits (n .chosen) (child .partial) (n .level) ≡ false
   Advanced Cut = taken × (passesAt (k .best) limits (child .chosen) (child .partial) (child .level) ≡ false)
   Advanced Stop = (passesAt (k .best) limits (child .chosen) (child .partial) (child .level) ≡ true) × (t .allowance ≤ k .count)
-  Advanced (Left more) = Counts × LeftOver more
+  Advanced (Left more) = Counts × (0 < child .level) × LeftOver more
+  Advanced (Leaf c) = Counts × (c ≡ child) × (child .level ≡ 0)
   Advanced (Enter c) =
-      Counts × (c ≡ child) × (0 < child .level → Filled (t .streams) (t .width) numbers child (behind (t .width) new))
+      Counts × (c ≡ child) × (0 < child .level) × Filled (t .streams) (t .width) numbers child (behind (t .width) new)
 
 -- A node after leaves were walked: what its chosen bits give is looked up anew
 pub record Renewal (m q label : ℕ) (limits : List ℕ) (old new : Node) : Type 0 where

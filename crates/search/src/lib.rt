@@ -3,6 +3,7 @@
 use constellation::PLACES;
 use cutoff::Bounds;
 use metric::AXES;
+use metric::Complex;
 use metric::Shape;
 use metric::TABLE;
 use siblings::ABOVE;
@@ -23,38 +24,46 @@ ghost use Rattle.metric.specs.Rows.{VectorAsked};
 ghost use Rattle.metric.specs.Tables.{Tabled};
 ghost use Rattle.metric.specs.Parts.{filled};
 ghost use Rattle.pruning.specs.Program.{above, sideOf, valueOf, takenIn, zerosOf, onesOf, limitsOf, keptOf, reachOf, sooner, noted, below};
-ghost use Rattle.reach.specs.Reach.{limitsSize};
+ghost use Rattle.reach.specs.Reach.{limitsSize, symbolOf};
 ghost use Rattle.siblings.specs.Rows.{keyCount, LeastRow};
-ghost use Rattle.search.specs.Limits.{vectorFor, Asked, upOf, limitAt, minimaSize, minimumPlace, NotedTo, keyPlaces, passesAt, baseOf, Limited, Renewed};
-ghost use Rattle.search.specs.Expand.{ExpandAsked, Filled, Expanded};
-ghost use Rattle.search.specs.Turn.{NextAsked, NextChild, AdvanceAsked, BelowAsked, BelowCounted, Advanced, Renewal, NodeAsked};
+ghost use Rattle.search.specs.Limits.{vectorFor, Asked, upOf, limitAt, minimaSize, minimumPlace, NotedTo, NarrowedTo, keyPlaces, passesAt, baseOf, Limited, Renewed};
+ghost use Rattle.search.specs.Expand.{OpenAsked, Shut, PartsAsked, BelowAsked, BelowCounted, ExpandAsked, Filled, Expanded};
+ghost use Rattle.search.specs.Turn.{NextAsked, NextChild, AdvanceAsked, Advanced, Renewal, NodeAsked};
 ghost use Rattle.search.specs.Values.{MinimaLow, Answered};
 
-// A node: how many streams are not chosen yet, the bits that are, as a number, its partial metric, and the widest limit of those of its bits
-// that are opposite to the best label's.
+// A node: how many streams are not chosen yet, its partial metric, the widest limit of those of its bits that are opposite to the best
+// label's, and the bits that are chosen, as a number.
 struct Node {
     level: usize,
-    bits: u32,
     partial: u64,
     chosen: u64,
+    bits: u32,
+}
+
+// What is found of a node's children: all of them would be cut; so many pass, below which nothing does; or their keys are filled in.
+enum Children {
+    Nothing,
+    Number(u32),
+    Keys,
 }
 
 // What a turn over a node's children came to: no child that is left passes; the next child is cut; the allowance is used up; the child is
-// counted, and so many of its own children pass, below which nothing does; or it is to be searched.
+// counted, and so many of its own children pass, below which nothing does; it is a leaf; or it is to be searched.
 enum Turn {
     Ended,
     Cut,
     Stop,
     Left(u32),
+    Leaf(Node),
     Enter(Node),
 }
 
-// What a search has kept, but for the minima: nodes counted, the mark, and the best label with its metric.
+// What a search has kept, but for the minima: the best label's metric, nodes counted, that label, and the mark.
 struct Kept {
-    count: u32,
-    stopped: bool,
-    label: u32,
     best: u64,
+    count: u32,
+    label: u32,
+    stopped: bool,
 }
 
 // The places of the array of minima: the least metrics with each bit 0, then, from here on, those with it 1,
@@ -65,8 +74,8 @@ const LIMITS: usize = 2 * ONES;
 
 const MINIMA: usize = LIMITS + reach::LIMITS;
 
-// The places of the keys of all levels: three of 256 children and 16 rows, or four of 64 and 8.
-pub const KEYS: usize = 3 * 272;
+// The places of the keys of all levels: three of 256 children and two for each of 16 rows, or four of 64 and two for each of 8.
+pub const KEYS: usize = 3 * 288;
 
 // What a search is asked: a vector's M, Q and C, and its allowance (document 01's term).
 pub struct Task {
@@ -115,22 +124,6 @@ fn comes_sooner(d: u64, node: u32, best: u64, label: u32) -> bool
     d == best && node < label
 }
 
-// The best label after one of metric d.
-fn better(d: u64, node: u32, best: u64, label: u32) -> Best
-    ensures { λ r. ⌜ (r .label ≡ cond (sooner d node best label) node label) × (r .metric ≡ min d best) ⌝ }
-{
-    if comes_sooner(d, node, best, label) {
-        return Best {
-            label: node,
-            metric: d,
-        };
-    }
-    Best {
-        label,
-        metric: best,
-    }
-}
-
 // The least metric at place i, after one of d.
 fn lower(least: &mut [u64], i: usize, d: u64)
     requires { ⌜ i < length (now least) ⌝ }
@@ -138,6 +131,17 @@ fn lower(least: &mut [u64], i: usize, d: u64)
 {
     if d < least[i] {
         least[i] = d;
+    }
+}
+
+// The same, where it is asked for.
+fn lower_where(asked: bool, least: &mut [u64], i: usize, d: u64)
+    requires { ⌜ i < length (now least) ⌝ }
+    ensures { λ _. ⌜ now (least .exit)
+        ≡ cond asked (set (now (least .entry)) i (min d (getD (now (least .entry)) i 0))) (now (least .entry)) ⌝ }
+{
+    if asked {
+        return lower(least, i, d);
     }
 }
 
@@ -158,6 +162,21 @@ fn note(n: usize, label: u32, d: u64, minima: &mut [u64])
     while i < n {
         let bit = metric::bit_at(n, label, i);
         lower(minima, minimum_place(bit, i), d);
+        i += 1;
+    }
+}
+
+// The same for a leaf that leaves the best label as it is: its metric is taken into the limits, too, of its bits that are opposite to that
+// label's, which are 1 in `opposed`. Nothing else can change a limit then.
+fn narrow(n: usize, label: u32, opposed: u32, d: u64, minima: &mut [u64])
+    requires { ⌜ (n ≤ mostBits) × (length (now minima) ≡ minimaSize) ⌝ }
+    ensures { λ _. ⌜ NarrowedTo n label opposed d n (now (minima .entry)) (now (minima .exit)) ⌝ }
+{
+    let mut i = 0;
+    while i < n {
+        let bit = metric::bit_at(n, label, i);
+        lower(minima, minimum_place(bit, i), d);
+        lower_where(metric::bit_at(n, opposed, i), minima, LIMITS + i, d);
         i += 1;
     }
 }
@@ -213,7 +232,7 @@ fn renew_limits(task: Task, numbers: &[i32], best: Best, minima: &mut [u64])
     ensures { λ _. ⌜ Renewed (vectorFor task (now (numbers .entry))) (best .label) (best .metric) (now (minima .entry)) (now (minima .exit)) ⌝ }
 {
     limit_all(task, numbers, best, minima);
-    reach::fill(task.streams, task.width, &mut minima[LIMITS..]);
+    reach::fill(task.streams, task.width, &mut minima[LIMITS..], reach::ALL);
 }
 
 // Does a node of partial metric d pass? `level` streams are not chosen yet, and `chosen` is the widest limit of the chosen bits that are
@@ -231,9 +250,11 @@ fn passes(kept: Kept, limits: &[u64], d: u64, level: usize, chosen: u64) -> bool
     d < chosen
 }
 
-// A leaf is taken into the best label, the minima and the limits.
+// A leaf is taken into the best label, the minima and the limits. Most leaves of a long walk do not come before the best label: B and m
+// stay, and few limits change.
 fn take_leaf(task: Task, leaf: Node, kept: Kept, numbers: &[i32], minima: &mut [u64]) -> Kept
-    requires { ⌜ Asked task (now numbers) × (leaf .partial ≤ above) × (kept .best ≤ above) × (length (now minima) ≡ minimaSize) ⌝ }
+    requires { ⌜ Asked task (now numbers) × (leaf .partial < above) × (length (now minima) ≡ minimaSize)
+        × Limited (vectorFor task (now numbers)) (takenIn (kept .label) (kept .best) (now minima)) (limitsOf (now minima)) ⌝ }
     ensures { λ r. ⌜ (keptOf (r .count) (r .stopped) (takenIn (r .label) (r .best) (now (minima .exit)))
         ≡ keptOf (kept .count) (kept .stopped)
         (noted (vectorFor task (now (numbers .entry))) (leaf .bits) (leaf .partial)
@@ -242,8 +263,17 @@ fn take_leaf(task: Task, leaf: Node, kept: Kept, numbers: &[i32], minima: &mut [
         (limitsOf (now (minima .exit))) × (length (now (minima .exit)) ≡ minimaSize) ⌝ }
 {
     let n = task.streams * task.width;
+    if !comes_sooner(leaf.partial, leaf.bits, kept.best, kept.label) {
+        let opposed = leaf.bits ^ kept.label;
+        narrow(n, leaf.bits, opposed, leaf.partial, minima);
+        reach::fill(task.streams, task.width, &mut minima[LIMITS..], opposed);
+        return kept;
+    }
     note(n, leaf.bits, leaf.partial, minima);
-    let best = better(leaf.partial, leaf.bits, kept.best, kept.label);
+    let best = Best {
+        label: leaf.bits,
+        metric: leaf.partial,
+    };
     renew_limits(task, numbers, best, minima);
     Kept {
         count: kept.count,
@@ -347,39 +377,39 @@ fn base_of(node: Node, kept: Kept, limits: &[u64]) -> u64
     reach::larger(reach::larger(kept.best + 1, free), node.chosen)
 }
 
-// The keys of a node's children, by the parts of their two axes; false, with no key filled in, where all of them would be cut. A leaf has
-// none.
-fn expand(
+// The best label's symbol at the stream of a node's children.
+fn own_symbol(task: Task, node: Node, label: u32) -> usize
+    requires { ⌜ (task .width ≤ mostWidth) × (0 < node .level) × (node .level ≤ task .streams)
+        × ((task .streams - node .level) * task .width ≤ mostBits) ⌝ }
+    ensures { λ r. ⌜ (r ≡ symbolOf (task .streams) (task .width) label (node .level - 1)) × (r < 2 ^ task .width) ⌝ }
+{
+    let after = (task.streams - node.level) * task.width;
+    metric::symbol_at(label, task.width, after)
+}
+
+// May a child of a node pass? `left` is what remains of y in the row of the children.
+fn opens(
     task: Task,
     node: Node,
     kept: Kept,
-    points: &[i8; PLACES],
+    left: Complex,
     numbers: &[i32],
     tables: &[i32; TABLE],
     limits: &[u64],
-    keys: &mut [u64],
 ) -> bool
-    requires { ⌜ ExpandAsked task (now points) (now numbers) (now tables) node (kept .best) (now limits) (now keys) ⌝ }
-    ensures { λ r. ⌜ Expanded (task .streams) (task .width) (now (numbers .entry)) node (kept .label) (kept .best)
-        (now (limits .entry)) (now (keys .exit)) r ⌝ }
+    requires { ⌜ OpenAsked task (now numbers) (now tables) node (kept .best) (left .re) (left .im) (now limits) ⌝ }
+    ensures { λ r. ⌜ (r ≡ false → Shut (task .streams) (task .width) (now (numbers .entry)) node (kept .label) (kept .best)
+        (now (limits .entry))) ⌝ }
 {
-    if node.level == 0 {
-        return true;
-    }
     let shape = Shape {
         streams: task.streams,
         width: task.width,
     };
     let row = node.level - 1;
     let base = base_of(node, kept, limits);
-    let own = metric::symbol_at(
-        kept.label,
-        task.width,
-        (task.streams - node.level) * task.width,
-    );
+    let own = own_symbol(task, node, kept.label);
     let at = reach::ENTRIES + row * reach::STREAM;
-    let left = metric::remainder(points, numbers, task.streams, task.width, row, node.bits);
-    if !cutoff::opens(
+    cutoff::opens(
         shape,
         row,
         left,
@@ -389,17 +419,11 @@ fn expand(
         tables,
         &limits[at..at + reach::STREAM],
         own,
-    ) {
-        return false;
-    }
-    let mut axes = [0u64; AXES];
-    metric::fill_parts(shape, row, left, numbers, tables, &mut axes);
-    siblings::fill(task.width, node.partial, &axes, keys);
-    true
+    )
 }
 
-// How many of a node's children pass, where nothing does below any of them; asked only of parents of parents of leaves, and only after the
-// first leaf: elsewhere that is seldom so.
+// How many of a node's children pass, where nothing does below any of them, by the parts of their two axes; asked only of parents of parents
+// of leaves, and only after the first leaf: elsewhere that is seldom so.
 fn count_below(
     task: Task,
     node: Node,
@@ -408,11 +432,11 @@ fn count_below(
     numbers: &[i32],
     tables: &[i32; TABLE],
     limits: &[u64],
-    keys: &[u64],
+    axes: &[u64; AXES],
 ) -> Counted
-    requires { ⌜ BelowAsked task (now points) (now numbers) (now tables) node (kept .best) (now limits) (now keys) ⌝ }
+    requires { ⌜ BelowAsked task (now points) (now numbers) (now tables) node (kept .best) (now limits) (now axes) ⌝ }
     ensures { λ r. ⌜ (r .sure ≡ true → BelowCounted (task .streams) (task .width) (now (numbers .entry)) node (kept .label) (kept .best)
-        (now (limits .entry)) (now (keys .entry)) (r .count)) ⌝ }
+        (now (limits .entry)) (r .count)) ⌝ }
 {
     if node.level != 2 || kept.best == ABOVE {
         return Counted {
@@ -434,18 +458,100 @@ fn count_below(
         shape,
         node.level,
         node.bits,
+        node.partial,
         bounds,
         kept.label,
         points,
         numbers,
         tables,
         limits,
-        keys,
+        axes,
     )
 }
 
+// Has a symbol of the first stream any prior cost? The labels of an axis whose bits are all 0 and all 1 have none only where no bit of it has
+// a prior. Whether a question is worth asking is all that depends on it.
+fn priced(q: usize, tables: &[i32; TABLE]) -> bool
+    requires { ⌜ q ≤ mostWidth ⌝ }
+{
+    let real = AXES / 2;
+    let imaginary = 3 * real;
+    let first = tables[real] | tables[real + ((1 << (q - q / 2)) - 1)];
+    let second = tables[imaginary] | tables[imaginary + ((1 << (q / 2)) - 1)];
+    first | second != 0
+}
+
+// Would every leaf below a parent of leaves be cut, by the parts of their two axes? Asked only where there are priors: the distances, by which
+// `opens` was answered, are the parts where there are none.
+fn leaves_shut(
+    task: Task,
+    node: Node,
+    kept: Kept,
+    numbers: &[i32],
+    tables: &[i32; TABLE],
+    limits: &[u64],
+    axes: &[u64; AXES],
+) -> bool
+    requires { ⌜ PartsAsked task (now numbers) node (kept .best) (now limits) (now axes) ⌝ }
+    ensures { λ r. ⌜ (r ≡ true → Shut (task .streams) (task .width) (now (numbers .entry)) node (kept .label) (kept .best)
+        (now (limits .entry))) ⌝ }
+{
+    if node.level != 1 || !priced(task.width, tables) {
+        return false;
+    }
+    let base = base_of(node, kept, limits);
+    let own = own_symbol(task, node, kept.label);
+    let at = reach::ENTRIES + (node.level - 1) * reach::STREAM;
+    cutoff::shuts(
+        task.width,
+        node.partial,
+        base,
+        axes,
+        &limits[at..at + reach::STREAM],
+        own,
+    )
+}
+
+// What is found of a node's children. Their parts are made only where one may pass, and their keys only where the search has more to do than
+// to count them.
+fn expand(
+    task: Task,
+    node: Node,
+    kept: Kept,
+    points: &[i8; PLACES],
+    numbers: &[i32],
+    tables: &[i32; TABLE],
+    limits: &[u64],
+    keys: &mut [u64],
+) -> Children
+    requires { ⌜ ExpandAsked task (now points) (now numbers) (now tables) node (kept .best) (now limits) (now keys) ⌝ }
+    ensures { λ r. ⌜ Expanded (task .streams) (task .width) (now (numbers .entry)) node (kept .label) (kept .best)
+        (now (limits .entry)) (now (keys .exit)) r ⌝ }
+{
+    let row = node.level - 1;
+    let left = metric::remainder(points, numbers, task.streams, task.width, row, node.bits);
+    if !opens(task, node, kept, left, numbers, tables, limits) {
+        return Children::Nothing;
+    }
+    let shape = Shape {
+        streams: task.streams,
+        width: task.width,
+    };
+    let mut axes = [0u64; AXES];
+    metric::fill_parts(shape, row, left, numbers, tables, &mut axes);
+    if leaves_shut(task, node, kept, numbers, tables, limits, &axes) {
+        return Children::Nothing;
+    }
+    let below = count_below(task, node, kept, points, numbers, tables, limits, &axes);
+    if below.sure {
+        return Children::Number(below.count);
+    }
+    siblings::fill(task.width, node.partial, &axes, keys);
+    Children::Keys
+}
+
 // One turn over a node's children. They end where the node itself would not pass with the smallest key that is left; else the child with
-// that key is taken, cut or counted, and its own children are measured, behind the node's, unless all of those would be cut.
+// that key is taken, cut or counted, and its own children are looked at; their keys stand behind the node's.
 fn advance(
     task: Task,
     node: Node,
@@ -470,8 +576,11 @@ fn advance(
     if task.allowance <= kept.count {
         return Turn::Stop;
     }
+    if child.level == 0 {
+        return Turn::Leaf(child);
+    }
     let places = key_places(task.width);
-    if !expand(
+    match expand(
         task,
         child,
         kept,
@@ -481,30 +590,18 @@ fn advance(
         limits,
         &mut keys[places..],
     ) {
-        return Turn::Left(0);
+        Children::Nothing => Turn::Left(0),
+        Children::Number(count) => Turn::Left(count),
+        Children::Keys => Turn::Enter(child),
     }
-    let below = count_below(
-        task,
-        child,
-        kept,
-        points,
-        numbers,
-        tables,
-        limits,
-        &keys[places..],
-    );
-    if below.sure {
-        return Turn::Left(below.count);
-    }
-    Turn::Enter(child)
 }
 
-// The places of a node's keys: its children's, and the smallest of each row.
+// The places of a node's keys: its children's, and the smallest of each row with its column.
 fn key_places(q: usize) -> usize
     requires { ⌜ q ≤ mostWidth ⌝ }
     ensures { λ r. ⌜ r ≡ keyCount q ⌝ }
 {
-    (1 << q) + (1 << (q - q / 2))
+    (1 << q) + 2 * (1 << (q - q / 2))
 }
 
 // A node after leaves were walked below it: the limits and the best label may be others.
@@ -526,8 +623,8 @@ fn renew_node(task: Task, node: Node, label: u32, limits: &[u64]) -> Node
     }
 }
 
-// The search below a node: a leaf is taken into what is kept; another node's children, whose keys are filled in, are tried in order, each cut,
-// counted or searched, until they end. The keys of the levels below stand behind them.
+// The search below a node: its children, whose keys are filled in, are tried in order, each cut, counted, taken as a leaf or searched, until
+// they end. The keys of the levels below stand behind them.
 fn walk(
     task: Task,
     node: Node,
@@ -542,22 +639,19 @@ fn walk(
         (takenIn (kept .label) (kept .best) (now minima)) (limitsOf (now minima)) (now keys)
         × (kept .stopped ≡ false) × Tabled (task .streams) (task .width) (now numbers) (now tables)
         × (length (now minima) ≡ minimaSize) × Points (task .width) (now points)
-        × (0 < node .level → Filled (task .streams) (task .width) (now numbers) node (now keys)) ⌝ }
+        × (0 < node .level) × Filled (task .streams) (task .width) (now numbers) node (now keys) ⌝ }
     ensures { λ r. ⌜ (keptOf (r .count) (r .stopped) (takenIn (r .label) (r .best) (now (minima .exit)))
         ≡ below (vectorFor task (now (numbers .entry))) (task .allowance) (node .level) (node .bits) (node .partial)
         (keptOf (kept .count) false (takenIn (kept .label) (kept .best) (now (minima .entry)))))
         × Limited (vectorFor task (now (numbers .entry))) (takenIn (r .label) (r .best) (now (minima .exit)))
         (limitsOf (now (minima .exit))) × (length (now (minima .exit)) ≡ minimaSize) ⌝ }
 {
-    if node.level == 0 {
-        return take_leaf(task, node, kept, numbers, minima);
-    }
     let places = key_places(task.width);
     let n: usize = 1 << task.width;
     let mut k = kept;
     let mut parent = node;
     let mut tried = 0;
-    while tried < n {
+    while tried != n {
         match advance(
             task,
             parent,
@@ -575,6 +669,11 @@ fn walk(
                 if k.stopped {
                     return k;
                 }
+            }
+            Turn::Leaf(leaf) => {
+                let found = take_leaf(task, leaf, counted(k), numbers, minima);
+                parent = renew_node(task, parent, found.label, &minima[LIMITS..]);
+                k = found;
             }
             Turn::Enter(child) => {
                 k = walk(
@@ -629,7 +728,7 @@ fn write_soft(task: Task, numbers: &[i32], minima: &[u64], soft: &mut [i32; 24])
     }
 }
 
-// The search below the root, whose children's keys are filled in first.
+// The search below the root. Before the first leaf nothing is cut, so the keys of its children are filled in at once.
 fn begin(
     task: Task,
     root: Node,
@@ -641,7 +740,7 @@ fn begin(
     keys: &mut [u64],
 ) -> Kept
     requires { ⌜ NodeAsked (task .streams) (task .width) (task .clip) (now numbers) root
-        (takenIn (kept .label) (kept .best) (now minima)) (limitsOf (now minima)) (now keys)
+        (takenIn (kept .label) (kept .best) (now minima)) (limitsOf (now minima)) (now keys) × (0 < root .level)
         × (kept .stopped ≡ false) × Tabled (task .streams) (task .width) (now numbers) (now tables)
         × (length (now minima) ≡ minimaSize) × Points (task .width) (now points) ⌝ }
     ensures { λ r. ⌜ (keptOf (r .count) (r .stopped) (takenIn (r .label) (r .best) (now (minima .exit)))
@@ -649,19 +748,16 @@ fn begin(
         (keptOf (kept .count) false (takenIn (kept .label) (kept .best) (now (minima .entry)))))
         × (length (now (minima .exit)) ≡ minimaSize) ⌝ }
 {
-    if expand(
-        task,
-        root,
-        kept,
-        points,
-        numbers,
-        tables,
-        &minima[LIMITS..],
-        keys,
-    ) {
-        return walk(task, root, kept, points, numbers, tables, minima, keys);
-    }
-    kept
+    let row = root.level - 1;
+    let left = metric::remainder(points, numbers, task.streams, task.width, row, root.bits);
+    let shape = Shape {
+        streams: task.streams,
+        width: task.width,
+    };
+    let mut axes = [0u64; AXES];
+    metric::fill_parts(shape, row, left, numbers, tables, &mut axes);
+    siblings::fill(task.width, root.partial, &axes, keys);
+    walk(task, root, kept, points, numbers, tables, minima, keys)
 }
 
 // What a reply says of a vector, but for its soft values.
@@ -691,12 +787,8 @@ pub fn search_vector(
     };
     let mut tables = [0i32; TABLE];
     metric::prepare(shape, points, numbers, &mut tables);
+    // Before the first leaf every minimum is infinite, and so is B: everything passes, whatever the limits are.
     let mut minima = [ABOVE; MINIMA];
-    let none = Best {
-        label: 0,
-        metric: ABOVE,
-    };
-    renew_limits(task, numbers, none, &mut minima);
     let start = Kept {
         count: 0,
         stopped: false,

@@ -13,7 +13,7 @@ use lib.Pow.{pow-pos}
 use Rattle.metric.proofs.Grid.{rows-all, row-room}
 use Rattle.pruning.specs.Arrays.{leastFirst}
 use Rattle.pruning.proofs.Arrays.{Same, least-below, least-same, same-part}
-use Rattle.siblings.specs.Rows.{rowCount, columnCount, keyCount, rowLeast, RowLeast}
+use Rattle.siblings.specs.Rows.{rowCount, columnCount, keyCount, rowColumn, rowLeast, RowLeast}
 use Rattle.siblings.proofs.Least.{First, first-is, from, part-first}
 
 -- A row's smallest key is not above any other of the row
@@ -69,29 +69,36 @@ module _ (q : ℕ) (keys : List ℕ) (a b : ℕ) (h : RowLeast q keys) (ea : a �
     earlier = earlier;
   })
 
--- Arrays with the same keys in a row have the same smallest key there
-pub row-key : (q a : ℕ) (x y : List ℕ) → a < rowCount q → 2 ^ q ≤ length x → 2 ^ q ≤ length y
-    → ((b : ℕ) → b < columnCount q → getD x (a * columnCount q + b) 0 ≡ getD y (a * columnCount q + b) 0)
-    → getD x (rowLeast q x a) 0 ≡ getD y (rowLeast q y a) 0
-row-key q a x y l wx wy e =
-    ap (λ (k : ℕ). getD x (a * columnCount q + k) 0) (least-same s (pow-pos (q / 2))) ∙ e _ (least-below _ _ (pow-pos (q / 2)))
-  where
-    s : Same (columnCount q) (drop (a * columnCount q) x) (drop (a * columnCount q) y)
-    s = record {
-      wide-a = omega (arith, row-room q a l, length-drop (a * columnCount q) x);
-      wide-b = omega (arith, row-room q a l, length-drop (a * columnCount q) y);
-      keys = λ i k. rw (getD-drop (a * columnCount q) x i 0, getD-drop (a * columnCount q) y i 0) (e i k);
-    }
+-- Arrays with the same keys in a row have the smallest one in the same column,
+module _ (q a : ℕ) (x y : List ℕ) (l : a < rowCount q) (wx : 2 ^ q ≤ length x) (wy : 2 ^ q ≤ length y)
+    (e : (b : ℕ) → b < columnCount q → getD x (a * columnCount q + b) 0 ≡ getD y (a * columnCount q + b) 0) where
+  pub row-column : rowColumn q x a ≡ rowColumn q y a
+  row-column = least-same s (pow-pos (q / 2))
+    where
+      s : Same (columnCount q) (drop (a * columnCount q) x) (drop (a * columnCount q) y)
+      s = record {
+        wide-a = omega (arith, row-room q a l, length-drop (a * columnCount q) x);
+        wide-b = omega (arith, row-room q a l, length-drop (a * columnCount q) y);
+        keys = λ i k. rw (getD-drop (a * columnCount q) x i 0, getD-drop (a * columnCount q) y i 0) (e i k);
+      }
+
+  -- and it is the same key
+  pub row-key : getD x (rowLeast q x a) 0 ≡ getD y (rowLeast q y a) 0
+  row-key = ap (λ (k : ℕ). getD x (a * columnCount q + k) 0) row-column ∙ e _ (least-below _ _ (pow-pos (q / 2)))
 
 -- The keys behind a node's own belong to other levels
 pub row-least-front : (q : ℕ) (keys tail : List ℕ) → RowLeast q keys → RowLeast q (take (keyCount q) keys ++ tail)
 row-least-front q keys tail h = record {
   wide = s .wide-b;
-  each = λ a l.
-      sym (s .keys (2 ^ q + a) (omega arith)) ∙ h .each a l
-      ∙ row-key q a keys (take (keyCount q) keys ++ tail) l (omega (arith, h .wide)) (omega (arith, s .wide-b))
-      (λ b m. s .keys (a * columnCount q + b) (omega (arith, row-room q a l)));
+  each = λ a l. sym (s .keys (2 ^ q + a) (omega arith)) ∙ h .each a l
+      ∙ row-key q a keys (take (keyCount q) keys ++ tail) l (omega (arith, h .wide)) (omega (arith, s .wide-b)) (in-row a l);
+  column = λ a l. sym (s .keys (2 ^ q + rowCount q + a) (omega arith)) ∙ h .column a l
+      ∙ row-column q a keys (take (keyCount q) keys ++ tail) l (omega (arith, h .wide)) (omega (arith, s .wide-b)) (in-row a l);
 }
   where
     s : Same (keyCount q) keys (take (keyCount q) keys ++ tail)
     s = same-part (keyCount q) (keyCount q) keys tail (le-refl _) (h .wide)
+
+    in-row : (a : ℕ) → a < rowCount q → (b : ℕ) → b < columnCount q
+        → getD keys (a * columnCount q + b) 0 ≡ getD (take (keyCount q) keys ++ tail) (a * columnCount q + b) 0
+    in-row a l b m = s .keys (a * columnCount q + b) (omega (arith, row-room q a l))

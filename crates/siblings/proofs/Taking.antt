@@ -1,7 +1,8 @@
--- The next child is taken: its key is overwritten, and its row's smallest key with the smallest that is left.
-use Prim.Native.Nat.{ℕ, _+_, _*_, _/_, _^_, _<_}
+-- The next child is taken: its key is overwritten, and its row's smallest key and column with those of the smallest that is left.
+use Prim.Native.Nat.{ℕ, _+_, _*_, _/_, _^_, _≤_, _<_}
 use mathlib.Core.Path.{_≡_, refl, sym, ap, ap₂, _∙_}
 use mathlib.Core.List.{List}
+use mathlib.Core.Logic.{_≢_}
 use native.Mathlib.Decide.{ℕ-discrete}
 use native.Mathlib.Nat.{mul-add-div-right, div-eq-of-lt, ne-of-lt, ne-of-gt}
 use native.Mathlib.Omega.{arith}
@@ -12,19 +13,23 @@ use Rattle.metric.proofs.Grid.{row-room}
 use Rattle.pruning.specs.Arrays.{leastFirst}
 use Rattle.pruning.specs.Program.{above}
 use Rattle.pruning.proofs.Arrays.{Same}
-use Rattle.siblings.specs.Rows.{rowCount, columnCount, rowLeast, RowLeast, LeastRow, Took}
-use Rattle.siblings.proofs.Rows.{row, column, rows-first, row-key}
+use Rattle.siblings.specs.Rows.{rowCount, columnCount, rowColumn, rowLeast, RowLeast, LeastRow, Took}
+use Rattle.siblings.proofs.Rows.{row, column, rows-first, row-column, row-key}
 
 -- The row of a child
 row-of : (q a b : ℕ) → b < columnCount q → (a * columnCount q + b) / columnCount q ≡ a
 row-of q a b l = omega (arith, mul-add-div-right (pow-pos (q / 2)) a b, div-eq-of-lt l)
 
--- The keys after child b of row a is taken, and with the smallest that is left in the row, at its place `least`, behind them
+-- The keys after child b of row a is taken, with the smallest that is left in the row, in its column `least`, behind them, and with that
+-- column
 abbrev overwritten : ℕ → List ℕ → ℕ → ℕ → List ℕ
 overwritten c keys a b = set keys (a * c + b) above
 
 abbrev withLeast : ℕ → ℕ → List ℕ → ℕ → ℕ → List ℕ
 withLeast n c keys a least = set keys (n + a) (getD keys (a * c + least) 0)
+
+abbrev withColumn : ℕ → ℕ → List ℕ → ℕ → ℕ → List ℕ
+withColumn n r keys a least = set keys (n + r + a) least
 
 module _ (q : ℕ) (keys : List ℕ) (a b least : ℕ) (h : RowLeast q keys) (la : a < rowCount q) (lb : b < columnCount q)
     (e : least ≡ leastFirst (drop (a * columnCount q) (overwritten (columnCount q) keys a b)) (columnCount q)) where
@@ -34,22 +39,43 @@ module _ (q : ℕ) (keys : List ℕ) (a b least : ℕ) (h : RowLeast q keys) (la
   mid-length : length mid ≡ length keys
   mid-length = length-set keys (a * columnCount q + b) above
 
+  abbrev low : List ℕ
+  low = withLeast (2 ^ q) (columnCount q) mid a least
+
+  low-length : length low ≡ length keys
+  low-length = length-set mid (2 ^ q + a) _ ∙ mid-length
+
   abbrev new : List ℕ
-  new = withLeast (2 ^ q) (columnCount q) mid a least
+  new = withColumn (2 ^ q) (rowCount q) low a least
 
   new-length : length new ≡ length keys
-  new-length = length-set mid (2 ^ q + a) _ ∙ mid-length
+  new-length = length-set low (2 ^ q + rowCount q + a) least ∙ low-length
+
+  -- Before the columns nothing is changed but the row's smallest key,
+  new-low : (s : ℕ) → s < 2 ^ q + rowCount q → getD new s 0 ≡ getD low s 0
+  new-low s l = getD-set-other low (2 ^ q + rowCount q + a) s least 0 (ne-of-lt (omega arith))
 
   new-child : (s : ℕ) → s < 2 ^ q → getD new s 0 ≡ getD mid s 0
-  new-child s l = getD-set-other mid (2 ^ q + a) s _ 0 (ne-of-lt (omega arith))
+  new-child s l = new-low s (omega arith) ∙ getD-set-other mid (2 ^ q + a) s _ 0 (ne-of-lt (omega arith))
 
   new-row : (k i : ℕ) → k < rowCount q → i < columnCount q → getD mid (k * columnCount q + i) 0 ≡ getD new (k * columnCount q + i) 0
   new-row k i lk li = sym (new-child (k * columnCount q + i) (omega (arith, row-room q k lk)))
 
+  -- no child of another row,
+  other-row : (k : ℕ) → k < rowCount q → k ≢ a → (i : ℕ) → i < columnCount q
+      → getD keys (k * columnCount q + i) 0 ≡ getD new (k * columnCount q + i) 0
+  other-row k lk p i li =
+      sym (getD-set-other keys (a * columnCount q + b) (k * columnCount q + i) above 0
+      (λ x. p (sym (row-of q k i li) ∙ ap (λ (y : ℕ). y / columnCount q) x ∙ row-of q a b lb))) ∙ new-row k i lk li
+
+  -- and behind the children's keys nothing by the child that is taken
+  behind : (s : ℕ) → 2 ^ q ≤ s → getD mid s 0 ≡ getD keys s 0
+  behind s l = getD-set-other keys (a * columnCount q + b) s above 0 (ne-of-gt (omega (arith, row-room q a la)))
+
   new-each : (k : ℕ) → k < rowCount q → getD new (2 ^ q + k) 0 ≡ getD new (rowLeast q new k) 0
-  new-each k lk = go (ℕ-discrete k a)
+  new-each k lk = new-low (2 ^ q + k) (omega arith) ∙ go (ℕ-discrete k a)
     where
-      go : Dec (k ≡ a) → getD new (2 ^ q + k) 0 ≡ getD new (rowLeast q new k) 0
+      go : Dec (k ≡ a) → getD low (2 ^ q + k) 0 ≡ getD new (rowLeast q new k) 0
       go (yes p) =
           rw p
           (getD-set-same mid (2 ^ q + a) _ 0 (omega (arith, h .wide, mid-length))
@@ -58,11 +84,26 @@ module _ (q : ℕ) (keys : List ℕ) (a b least : ℕ) (h : RowLeast q keys) (la
           (omega (arith, h .wide, new-length)) (λ i li. new-row a i la li))
       go (no p) =
           getD-set-other mid (2 ^ q + a) (2 ^ q + k) _ 0 (λ x. p (omega arith))
-          ∙ getD-set-other keys (a * columnCount q + b) (2 ^ q + k) above 0 (ne-of-gt (omega (arith, row-room q a la)))
+          ∙ behind (2 ^ q + k) (omega arith)
           ∙ h .each k lk
-          ∙ row-key q k keys new lk (omega (arith, h .wide)) (omega (arith, h .wide, new-length))
-          (λ i li. sym (getD-set-other keys (a * columnCount q + b) (k * columnCount q + i) above 0
-          (λ x. p (sym (row-of q k i li) ∙ ap (λ (y : ℕ). y / columnCount q) x ∙ row-of q a b lb))) ∙ new-row k i lk li)
+          ∙ row-key q k keys new lk (omega (arith, h .wide)) (omega (arith, h .wide, new-length)) (other-row k lk p)
+
+  new-column : (k : ℕ) → k < rowCount q → getD new (2 ^ q + rowCount q + k) 0 ≡ rowColumn q new k
+  new-column k lk = go (ℕ-discrete k a)
+    where
+      go : Dec (k ≡ a) → getD new (2 ^ q + rowCount q + k) 0 ≡ rowColumn q new k
+      go (yes p) =
+          rw p
+          (getD-set-same low (2 ^ q + rowCount q + a) least 0 (omega (arith, h .wide, low-length))
+          ∙ e
+          ∙ row-column q a mid new la (omega (arith, h .wide, mid-length))
+          (omega (arith, h .wide, new-length)) (λ i li. new-row a i la li))
+      go (no p) =
+          getD-set-other low (2 ^ q + rowCount q + a) (2 ^ q + rowCount q + k) least 0 (λ x. p (omega arith))
+          ∙ getD-set-other mid (2 ^ q + a) (2 ^ q + rowCount q + k) _ 0 (ne-of-gt (omega arith))
+          ∙ behind (2 ^ q + rowCount q + k) (omega arith)
+          ∙ h .column k lk
+          ∙ row-column q k keys new lk (omega (arith, h .wide)) (omega (arith, h .wide, new-length)) (other-row k lk p)
 
   new-took : a * columnCount q + b ≡ leastFirst keys (2 ^ q)
       → Took q keys new (a * columnCount q + b)
@@ -70,7 +111,7 @@ module _ (q : ℕ) (keys : List ℕ) (a b least : ℕ) (h : RowLeast q keys) (la
     size = new-length;
     first = first;
     each = new-child;
-    rows = record { wide = omega (arith, h .wide, new-length); each = new-each };
+    rows = record { wide = omega (arith, h .wide, new-length); each = new-each; column = new-column };
   }
 
 -- The row of the first of the smallest keys
@@ -85,16 +126,16 @@ least-row q n r a keys en er h ea =
     }
 
 -- Taking the next child
-pub took : (q n c : ℕ) (keys : List ℕ) (a b least : ℕ) → n ≡ 2 ^ q → c ≡ columnCount q → RowLeast q keys
-    → a ≡ leastFirst (drop (2 ^ q) keys) (rowCount q) → b ≡ leastFirst (drop (a * c) keys) c
+pub took : (q n c r : ℕ) (keys : List ℕ) (a b least : ℕ) → n ≡ 2 ^ q → c ≡ columnCount q → r ≡ rowCount q → RowLeast q keys
+    → a ≡ leastFirst (drop (2 ^ q) keys) (rowCount q) → b ≡ getD keys (n + r + a) 0
     → least ≡ leastFirst (drop (a * c) (overwritten c keys a b)) c
-    → Took q keys (withLeast n c (overwritten c keys a b) a least) (a * c + b)
-took q n c keys a b least en ec h fa eb el =
-    let fb : b ≡ leastFirst (drop (a * columnCount q) keys) (columnCount q) = eb ∙ ap (λ (x : ℕ). leastFirst (drop (a * x) keys) x) ec in
+    → Took q keys (withColumn n r (withLeast n c (overwritten c keys a b) a least) a least) (a * c + b)
+took q n c r keys a b least en ec er h fa eb el =
+    let la = row q keys a _ h fa refl .below in
+    let fb : b ≡ rowColumn q keys a = eb ∙ ap₂ (λ (x y : ℕ). getD keys (x + y + a) 0) en er ∙ h .column a la in
     let fl = el ∙ ap (λ (x : ℕ). leastFirst (drop (a * x) (overwritten x keys a b)) x) ec in
-    let la = row q keys a b h fa fb .below in
     let lb = column q keys a b h fa fb .below in
-    rw (en, ec) (new-took q keys a b least h la lb fl (rows-first q keys a b h fa fb))
+    rw (en, ec, er) (new-took q keys a b least h la lb fl (rows-first q keys a b h fa fb))
 
 -- The keys after the next child is taken, but for what stands behind them
 pub took-same : {q : ℕ} {old new : List ℕ} {symbol : ℕ} → Took q old new symbol → Same (2 ^ q) (set old symbol above) new

@@ -1,4 +1,5 @@
--- The keys of a node's children by the rows of the constellation: a row has one real label. Behind the keys stands each row's smallest.
+-- The keys of a node's children by the rows of the constellation: a row has one real label. Behind the keys stands each row's smallest, and
+-- behind these the column of each.
 use Prim.Native.Nat.{ℕ, _+_, _-_, _*_, _/_, _^_, _≤_, _<_}
 use mathlib.Core.Path.{_≡_}
 use mathlib.Core.List.{List}
@@ -14,22 +15,31 @@ rowCount q = 2 ^ (q - q / 2)
 abbrev pub columnCount : ℕ → ℕ
 columnCount q = 2 ^ (q / 2)
 
--- The places of a node's keys: 2^Q children, and the rows
+-- The places of a node's keys: 2^Q children, and two for each row
 abbrev pub keyCount : ℕ → ℕ
-keyCount q = 2 ^ q + rowCount q
+keyCount q = 2 ^ q + 2 * rowCount q
 
 -- A child's partial metric from what its imaginary label gives and its real label's part
 unfoldable pub columnMetric : ℕ → List ℕ → ℕ → ℕ
 columnMetric base axes a = base + realIn axes a
 
--- The place of the smallest key of row a, the first one of equals
-abbrev pub rowLeast : ℕ → List ℕ → ℕ → ℕ
-rowLeast q keys a = a * columnCount q + leastFirst (drop (a * columnCount q) keys) (columnCount q)
+-- The column of every row, where it is the same one
+unfoldable pub sameColumn : ℕ → ℕ → ℕ
+sameColumn column a = column
 
--- Behind the keys stands each row's smallest
+-- The column of the smallest key of row a, the first one of equals,
+abbrev pub rowColumn : ℕ → List ℕ → ℕ → ℕ
+rowColumn q keys a = leastFirst (drop (a * columnCount q) keys) (columnCount q)
+
+-- and its place
+abbrev pub rowLeast : ℕ → List ℕ → ℕ → ℕ
+rowLeast q keys a = a * columnCount q + rowColumn q keys a
+
+-- Behind the keys stands each row's smallest, and behind these the column of each
 pub record RowLeast (q : ℕ) (keys : List ℕ) : Type 0 where
   pub wide : keyCount q ≤ length keys
   pub each : (a : ℕ) → a < rowCount q → getD keys (2 ^ q + a) 0 ≡ getD keys (rowLeast q keys a) 0
+  pub column : (a : ℕ) → a < rowCount q → getD keys (2 ^ q + rowCount q + a) 0 ≡ rowColumn q keys a
 
 -- The keys of all children are filled in
 pub record Placed (q partial : ℕ) (axes old new : List ℕ) : Type 0 where

@@ -1,5 +1,5 @@
 // The keys of a node's children, and the next child: the smallest key, found by the smallest of each row of the constellation, which are
-// kept behind the keys.
+// kept behind the keys with the column of each.
 use metric::AXES;
 ghost use mathlib.Core.Path.{_≡_};
 ghost use Prim.Native.Nat.{_+_, _*_, _-_, _/_, _<_, _≤_, _^_};
@@ -7,7 +7,7 @@ ghost use lib.ListN.{length, drop};
 ghost use Rattle.model.specs.Block.{mostWidth};
 ghost use Rattle.metric.specs.Parts.{span, filledFrom, AllSmall};
 ghost use Rattle.pruning.specs.Arrays.{leastFirst};
-ghost use Rattle.siblings.specs.Rows.{rowCount, keyCount, columnMetric, RowLeast, Placed, LeastRow, Took};
+ghost use Rattle.siblings.specs.Rows.{rowCount, keyCount, columnMetric, sameColumn, RowLeast, Placed, LeastRow, Took};
 
 // Above every metric: the key of a child that was taken, and an infinite least metric.
 pub const ABOVE: u64 = 549755813888;
@@ -74,8 +74,34 @@ fn fill_least(rows: usize, base: u64, axes: &[u64; AXES], at: usize, keys: &mut 
     fill_row_least(rows, base, axes, at, keys)
 }
 
-// The keys of a node's children, and behind them the smallest of each row. A row's keys differ by their imaginary parts alone, so the
-// smallest one stands in the same column of each, and differs from another row's by the real part alone.
+// One column for each row, in the keys from a place on.
+fn fill_row_columns(rows: usize, column: u64, at: usize, keys: &mut [u64])
+    requires { ⌜ (rows ≤ span) × (at + rows ≤ length (now keys)) ⌝ }
+    ensures { λ _. ⌜ now (keys .exit) ≡ filledFrom at (sameColumn column) rows (now (keys .entry)) ⌝ }
+{
+    let mut a = 0;
+    while a < rows {
+        keys[at + a] = column;
+        a += 1;
+    }
+}
+
+// The same, with the rows of 64-QAM and 16-QAM made known to the compiler.
+fn fill_columns(rows: usize, column: u64, at: usize, keys: &mut [u64])
+    requires { ⌜ (rows ≤ span) × (at + rows ≤ length (now keys)) ⌝ }
+    ensures { λ _. ⌜ now (keys .exit) ≡ filledFrom at (sameColumn column) rows (now (keys .entry)) ⌝ }
+{
+    if rows == 8 {
+        return fill_row_columns(8, column, at, keys);
+    }
+    if rows == 4 {
+        return fill_row_columns(4, column, at, keys);
+    }
+    fill_row_columns(rows, column, at, keys)
+}
+
+// The keys of a node's children, behind them the smallest of each row, and behind these its column. A row's keys differ by their imaginary
+// parts alone, so the smallest one stands in the same column of each, and differs from another row's by the real part alone.
 pub fn fill(q: usize, partial: u64, axes: &[u64; AXES], keys: &mut [u64])
     requires { ⌜ (q ≤ mostWidth) × (partial < 2 ^ 62) × (length (now axes) ≡ 2 * span) × AllSmall (now axes)
         × (keyCount q ≤ length (now keys)) ⌝ }
@@ -84,7 +110,9 @@ pub fn fill(q: usize, partial: u64, axes: &[u64; AXES], keys: &mut [u64])
     metric::fill_children(q, partial, axes, keys);
     let column = least_first(axes, AXES / 2, 1 << (q / 2));
     let base = partial + axes[AXES / 2 + column];
-    fill_least(1 << (q - q / 2), base, axes, 1 << q, keys);
+    let rows: usize = 1 << (q - q / 2);
+    fill_least(rows, base, axes, 1 << q, keys);
+    fill_columns(rows, column as u64, (1 << q) + rows, keys);
 }
 
 // The row of the first of the smallest keys, and that key: of the rows' smallest the first one of the smallest.
@@ -100,18 +128,21 @@ pub fn least_row(q: usize, keys: &[u64]) -> Row
     }
 }
 
-// Takes the next child, the first of the smallest keys, in its row: its key is then above every metric, and its row has another smallest one.
+// Takes the next child, the first of the smallest keys, in its row, where its column is known: its key is then above every metric, and its
+// row has another smallest one, which is looked for once, for its key and its column.
 pub fn take(q: usize, row: usize, keys: &mut [u64]) -> usize
     requires { ⌜ (q ≤ mostWidth) × RowLeast q (now keys) × (row ≡ leastFirst (drop (2 ^ q) (now keys)) (rowCount q)) ⌝ }
     ensures { λ r. ⌜ Took q (now (keys .entry)) (now (keys .exit)) r ⌝ }
 {
     let n: usize = 1 << q;
     let columns: usize = 1 << (q / 2);
+    let rows: usize = 1 << (q - q / 2);
     let start = row * columns;
-    let symbol = start + least_first(keys, start, columns);
+    let symbol = start + keys[n + rows + row] as usize;
     keys[symbol] = ABOVE;
-    let least = start + least_first(keys, start, columns);
-    let next = keys[least];
+    let column = least_first(keys, start, columns);
+    let next = keys[start + column];
     keys[n + row] = next;
+    keys[n + rows + row] = column as u64;
     symbol
 }

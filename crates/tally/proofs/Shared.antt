@@ -1,22 +1,23 @@
 -- What the children of a node share gives the pass test of each of them, and what each one's own children are held against.
-use Prim.Native.Nat.{ℕ, _+_, _-_, _*_, _^_, _<_, max}
+use Prim.Native.Nat.{ℕ, _+_, _-_, _*_, _/_, _^_, _<_, max}
 use mathlib.Core.Path.{_≡_, refl, _∙_, ap, ap₂}
 use mathlib.Core.Bool.{Bool, true, false, _||_}
 use mathlib.Core.List.{List}
-use native.Mathlib.Nat.{mod-lt}
+use native.Mathlib.Nat.{mod-lt, zero-mul}
 use native.Mathlib.Omega.{arith}
 use borrow.Author.Tests.{lt-ltb, le-ltb, ltb-true, ltb-false, leb-true, leb-false}
 use lib.Bits.{bitXor, xor-lt}
 use lib.Dec.{leb, ltb}
 use lib.IntN.{ℤ}
-use lib.ListN.{getD}
 use lib.Pow.{pow-pos}
 use Rattle.pruning.proofs.Counted.{count-same}
+use Rattle.metric.specs.Parts.{childMetric, realIn, imaginaryIn, rowMetric}
+use Rattle.metric.proofs.Grid.{row-at}
 use Rattle.cutoff.specs.declared.Bounds.{Bounds}
 use Rattle.reach.specs.Reach.{streamReach}
 use Rattle.siblings.specs.Rows.{rowCount, columnCount}
 use Rattle.tally.specs.Tally.{oppositeReach, childPasses, IdleBelow, CountedTo, CountAsked}
-use Rattle.tally.specs.Family.{wideIn, passesIn, IdleIn, FamilyOf, RowAsked}
+use Rattle.tally.specs.Family.{wideIn, keyIn, passesIn, IdleIn, NoneBelow, FamilyOf, RowAsked}
 use Rattle.tally.specs.declared.Family.{Family}
 
 -- Below the larger of some limits is below one of them
@@ -34,12 +35,24 @@ pass-by d best free chosen wide = go (leb d best) refl (ltb d free) refl (ltb d 
     go false e false f false g =
         le-ltb d all (omega (arith, leb-false d best e, ltb-false d free f, ltb-false d (max wide chosen) g))
 
+-- The key of the first child is small
+pub first-small : {m q level bits : ℕ} {b : Bounds} {points numbers tables : List ℤ} {limits : List ℕ} {partial : ℕ} {axes : List ℕ}
+    → CountAsked m q level bits b points numbers tables limits partial axes → partial + imaginaryIn axes 0 < 2 ^ 61
+unfolding rowMetric
+first-small {q = q} {partial = partial} {axes = axes} asked =
+    let few = asked .small (0 * 2 ^ (q / 2) + 0) (omega (arith, zero-mul (2 ^ (q / 2)), pow-pos q)) in
+    omega (arith, row-at q partial axes 0 0 (pow-pos (q / 2)), few)
+
 -- A node and its family
-module _ {m q level bits : ℕ} {b : Bounds} {label : ℕ} {points numbers tables : List ℤ} {limits keys : List ℕ} {f : Family}
-    (asked : CountAsked m q level bits b points numbers tables limits keys) (is : FamilyOf m q level bits b label numbers limits f) where
+module _ {m q level bits partial low : ℕ} {b : Bounds} {label : ℕ} {points numbers tables : List ℤ} {limits axes : List ℕ} {f : Family}
+    (asked : CountAsked m q level bits b points numbers tables limits partial axes)
+    (is : FamilyOf m q level bits partial low b label numbers limits f) where
   -- What counting asks, by the family's own fields
-  by-family : CountAsked (f .shape .streams) (f .shape .width) (f .level) (f .bits) b points numbers tables limits keys
-  by-family = rw (is .streams-is, is .width-is, is .level-is, is .bits-is) asked
+  by-family : CountAsked (f .shape .streams) (f .shape .width) (f .level) (f .bits) b points numbers tables limits (f .partial) axes
+  by-family = rw (is .streams-is, is .width-is, is .level-is, is .bits-is, is .partial-is) asked
+
+  abbrev key : ℕ → ℕ
+  key = keyIn f axes
 
   own-below : f .own < 2 ^ f .shape .width
   own-below = rw (is .own-is) (mod-lt _ (pow-pos (f .shape .width)))
@@ -48,10 +61,10 @@ module _ {m q level bits : ℕ} {b : Bounds} {label : ℕ} {points numbers table
   next-below = rw (is .next-is) (mod-lt _ (pow-pos (f .shape .width)))
 
   -- A row after those before it
-  pub row-asked : (a before : ℕ) → a < rowCount (f .shape .width)
-      → CountedTo (passesIn f limits keys) (IdleIn f numbers limits keys) (a * columnCount (f .shape .width)) before
-      → RowAsked f points numbers tables limits keys a before
-  row-asked a before h counted =
+  pub row-asked : (least : ℕ) → low ≡ partial + least → NoneBelow axes (columnCount q) least → (a before : ℕ) → a < rowCount (f .shape .width)
+      → CountedTo (passesIn f limits key) (IdleIn f numbers limits key) (a * columnCount (f .shape .width)) before
+      → RowAsked f points numbers tables limits axes a before
+  row-asked least e none a before h counted =
       let n = by-family in
       record {
         family = record {
@@ -69,9 +82,9 @@ module _ {m q level bits : ℕ} {b : Bounds} {label : ℕ} {points numbers table
           size = n .size;
           widest = n .widest;
         };
-        low = omega (arith, is .cap-is);
+        base-capped = omega (arith, is .cap-is);
         capped = λ s l. omega (arith, is .cap-is, n .capped (bitXor s (f .own)) (xor-lt (f .shape .width) s (f .own) l own-below));
-        rows = n .rows;
+        low = rw (is .width-is) (λ i l. omega (arith, is .low-is, is .partial-is, none i l));
         small = n .small;
         row = h;
         counted = counted;
@@ -81,27 +94,28 @@ module _ {m q level bits : ℕ} {b : Bounds} {label : ℕ} {points numbers table
   wide-same s = ap (λ (o : ℕ). streamReach (f .shape .width) limits (f .level - 1) (bitXor s o)) (is .own-is)
 
   pass-same : (s : ℕ)
-      → passesIn f limits keys s ≡ childPasses (f .shape .streams) (f .shape .width) (f .level) b label limits keys s
+      → passesIn f limits key s ≡ childPasses (f .shape .streams) (f .shape .width) (f .level) b label limits key s
   unfolding childPasses
   pass-same s =
-      ap₂ (λ (x y : ℕ). ltb (getD keys s 0) (max x y)) (is .base-is) (wide-same s)
-      ∙ pass-by (getD keys s 0) (b .best) (b .free) (b .chosen) _
+      ap₂ (λ (x y : ℕ). ltb (key s) (max x y)) (is .base-is) (wide-same s)
+      ∙ pass-by (key s) (b .best) (b .free) (b .chosen) _
 
-  idle-same : (s : ℕ) → IdleIn f numbers limits keys s
-      → IdleBelow (f .shape .streams) (f .shape .width) (f .level) (f .bits) b label numbers limits keys s
+  idle-same : (s : ℕ) → IdleIn f numbers limits key s
+      → IdleBelow (f .shape .streams) (f .shape .width) (f .level) (f .bits) b label numbers limits key s
   idle-same s idle t h =
       let r = idle t h in
       record { above-base = omega (arith, r .above-base, is .after-is, wide-same s); above-own = rw (is .next-is) at (r .above-own) }
 
   -- All rows
   pub counted-all : (count : ℕ)
-      → CountedTo (passesIn f limits keys) (IdleIn f numbers limits keys) (2 ^ f .shape .width) count
-      → CountedTo (childPasses m q level b label limits keys) (IdleBelow m q level bits b label numbers limits keys) (2 ^ q) count
+      → CountedTo (passesIn f limits key) (IdleIn f numbers limits key) (2 ^ f .shape .width) count
+      → CountedTo (childPasses m q level b label limits (childMetric q partial (realIn axes) (imaginaryIn axes)))
+      (IdleBelow m q level bits b label numbers limits (childMetric q partial (realIn axes) (imaginaryIn axes))) (2 ^ q) count
   counted-all count all =
-      rw (is .streams-is, is .width-is, is .level-is, is .bits-is) at own
+      rw (is .streams-is, is .width-is, is .level-is, is .bits-is, is .partial-is) at own
     where
-      own : CountedTo (childPasses (f .shape .streams) (f .shape .width) (f .level) b label limits keys)
-          (IdleBelow (f .shape .streams) (f .shape .width) (f .level) (f .bits) b label numbers limits keys) (2 ^ f .shape .width) count
+      own : CountedTo (childPasses (f .shape .streams) (f .shape .width) (f .level) b label limits key)
+          (IdleBelow (f .shape .streams) (f .shape .width) (f .level) (f .bits) b label numbers limits key) (2 ^ f .shape .width) count
       own = record {
         count-is = all .count-is ∙ count-same _ _ (2 ^ f .shape .width) (λ s _. pass-same s);
         idle = λ s h passes. idle-same s (all .idle s h (pass-same s ∙ passes));

@@ -10,12 +10,13 @@ use lib.ListN.{length, getD}
 use Rattle.model.specs.Constellation.{Complex, bitsOf, point, _⊖_, _⊗_}
 use Rattle.constellation.specs.Points.{complexOf, Points}
 use Rattle.block.specs.Contents.{complexAt}
+use Rattle.metric.specs.Parts.{childMetric, realIn, imaginaryIn}
 use Rattle.metric.specs.Rows.{rowStart, rowAt, remainderOf, VectorAsked, childOf}
 use Rattle.metric.specs.Tables.{Tabled}
 use Rattle.cutoff.specs.Cut.{Beyond, Widest}
 use Rattle.cutoff.specs.declared.Bounds.{Bounds}
 use Rattle.reach.specs.Reach.{limitsSize, firstPlace, streamReach, symbolOf, entriesOf}
-use Rattle.siblings.specs.Rows.{rowCount, columnCount, RowLeast}
+use Rattle.siblings.specs.Rows.{rowCount, columnCount}
 use Rattle.tally.specs.Tally.{CountedTo}
 use Rattle.tally.specs.declared.Family.{Family}
 
@@ -43,9 +44,13 @@ pub record RestOf (m q level bits : ℕ) (numbers : List ℤ) (re im : ℤ) : Ty
 abbrev pub wideIn : Family → List ℕ → ℕ → ℕ
 wideIn f limits s = streamReach (f .shape .width) limits (f .level - 1) (bitXor s (f .own))
 
+-- The child's key, from the parts of the two axes
+abbrev pub keyIn : Family → List ℕ → ℕ → ℕ
+keyIn f axes = childMetric (f .shape .width) (f .partial) (realIn axes) (imaginaryIn axes)
+
 -- The child with symbol s passes
-abbrev pub passesIn : Family → List ℕ → List ℕ → ℕ → Bool
-passesIn f limits keys s = ltb (getD keys s 0) (max (f .base) (wideIn f limits s))
+abbrev pub passesIn : Family → List ℕ → (ℕ → ℕ) → ℕ → Bool
+passesIn f limits key s = ltb (key s) (max (f .base) (wideIn f limits s))
 
 -- Below the child with symbol s and partial metric d every child would be cut: `wide` is the widest limit of its own bits
 abbrev pub IdleAt : Family → List ℤ → List ℕ → ℕ → ℕ → ℕ → Type 0
@@ -55,15 +60,21 @@ IdleAt f numbers limits wide d s =
     (childOf (f .shape .streams) (f .shape .width) numbers (f .level - 2)
     (s * 2 ^ ((f .shape .streams - f .level) * f .shape .width) + f .bits) d t) t
 
-abbrev pub IdleIn : Family → List ℤ → List ℕ → List ℕ → ℕ → Type 0
-IdleIn f numbers limits keys s = IdleAt f numbers limits (wideIn f limits s) (getD keys s 0) s
+abbrev pub IdleIn : Family → List ℤ → List ℕ → (ℕ → ℕ) → ℕ → Type 0
+IdleIn f numbers limits key s = IdleAt f numbers limits (wideIn f limits s) (key s) s
+
+-- None of the first n imaginary parts is below a number
+abbrev pub NoneBelow : List ℕ → ℕ → ℕ → Type 0
+NoneBelow axes n least = (b : ℕ) → b < n → least ≤ imaginaryIn axes b
 
 -- The family of a node's children
-pub record FamilyOf (m q level bits : ℕ) (b : Bounds) (label : ℕ) (numbers : List ℤ) (limits : List ℕ) (f : Family) : Type 0 where
+pub record FamilyOf (m q level bits partial low : ℕ) (b : Bounds) (label : ℕ) (numbers : List ℤ) (limits : List ℕ) (f : Family) : Type 0 where
   pub streams-is : f .shape .streams ≡ m
   pub width-is : f .shape .width ≡ q
   pub level-is : f .level ≡ level
   pub bits-is : f .bits ≡ bits
+  pub partial-is : f .partial ≡ partial
+  pub low-is : f .low ≡ low
   pub base-is : f .base ≡ max (max (b .best + 1) (b .chosen)) (b .free)
   pub cap-is : f .cap ≡ max (f .base) (b .cap)
   pub after-is : f .after ≡ max (max (b .best + 1) (b .chosen)) (getD limits (firstPlace (f .level - 2)) 0)
@@ -86,12 +97,12 @@ pub record ChildCounted (f : Family) (numbers : List ℤ) (limits : List ℕ) (w
   pub count-is : count ≡ before + cond (ltb d (max (f .base) wide)) 1 0
   pub idle : ltb d (max (f .base) wide) ≡ true → IdleAt f numbers limits wide d s
 
--- What counting the children of row a asks, those of the rows before it being counted
-pub record RowAsked (f : Family) (points numbers tables : List ℤ) (limits keys : List ℕ) (a before : ℕ) : Type 0 where
+-- What counting the children of row a asks, those of the rows before it being counted: no key is below `low` and the real part of its row
+pub record RowAsked (f : Family) (points numbers tables : List ℤ) (limits axes : List ℕ) (a before : ℕ) : Type 0 where
   pub family : FamilyAsked f points numbers tables limits
-  pub low : f .base ≤ f .cap
+  pub base-capped : f .base ≤ f .cap
   pub capped : (s : ℕ) → s < 2 ^ f .shape .width → wideIn f limits s ≤ f .cap
-  pub rows : RowLeast (f .shape .width) keys
-  pub small : (s : ℕ) → s < 2 ^ f .shape .width → getD keys s 0 < 2 ^ 61
+  pub low : (b : ℕ) → b < columnCount (f .shape .width) → f .low ≤ f .partial + imaginaryIn axes b
+  pub small : (s : ℕ) → s < 2 ^ f .shape .width → keyIn f axes s < 2 ^ 61
   pub row : a < rowCount (f .shape .width)
-  pub counted : CountedTo (passesIn f limits keys) (IdleIn f numbers limits keys) (a * columnCount (f .shape .width)) before
+  pub counted : CountedTo (passesIn f limits (keyIn f axes)) (IdleIn f numbers limits (keyIn f axes)) (a * columnCount (f .shape .width)) before

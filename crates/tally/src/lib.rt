@@ -13,10 +13,11 @@ ghost use lib.IntN.{natAbs};
 ghost use lib.ListN.{length};
 ghost use Rattle.model.specs.Block.{mostWidth};
 ghost use Rattle.constellation.specs.Points.{complexOf};
+ghost use Rattle.metric.specs.Parts.{span, childMetric, realIn, imaginaryIn};
 ghost use Rattle.reach.specs.Reach.{limitsSize};
 ghost use Rattle.siblings.specs.Rows.{columnCount};
 ghost use Rattle.tally.specs.Tally.{CountedTo, childPasses, IdleBelow, CountAsked};
-ghost use Rattle.tally.specs.Family.{leftAt, RestAsked, RestOf, passesIn, IdleIn, IdleAt, FamilyAsked, FamilyOf, ChildCounted, RowAsked};
+ghost use Rattle.tally.specs.Family.{leftAt, RestAsked, RestOf, keyIn, passesIn, IdleIn, IdleAt, FamilyAsked, FamilyOf, ChildCounted, NoneBelow, RowAsked};
 
 // How many labels the widest axis has: the place of the imaginary axis's entries.
 const SPAN: usize = AXES / 2;
@@ -27,14 +28,17 @@ pub struct Counted {
     pub count: u32,
 }
 
-// What the children of a node share: `level` streams are not chosen at the node, whose bits are `bits`. A child passes below `base`, or below
-// a limit of its own bits; none of these is wider than `cap`. A child's own children are held against `after`. `own` is the best label's
-// symbol at the children's stream, and `next` that at the stream of their children; `rest` is what remains of y in the row of that stream
-// before a child's own symbol is taken away.
+// What the children of a node share: `level` streams are not chosen at the node, whose bits are `bits` and whose partial metric is `partial`.
+// `low` is that with the smallest imaginary part: no child of a row has a smaller key than `low` and the row's real part. A child passes
+// below `base`, or below a limit of its own bits; none of these is wider than `cap`. A child's own children are held against `after`. `own`
+// is the best label's symbol at the children's stream, and `next` that at the stream of their children; `rest` is what remains of y in the
+// row of that stream before a child's own symbol is taken away.
 struct Family {
     shape: Shape,
     level: usize,
     bits: u32,
+    partial: u64,
+    low: u64,
     base: u64,
     cap: u64,
     after: u64,
@@ -59,11 +63,44 @@ fn rest_of(shape: Shape, level: usize, bits: u32, points: &[i8; PLACES], numbers
     }
 }
 
+// The smallest of the first n imaginary parts: none of these is below it.
+fn least_of(axes: &[u64; AXES], n: usize) -> u64
+    requires { ⌜ (1 ≤ n) × (n ≤ span) ⌝ }
+    ensures { λ r. ⌜ NoneBelow (now (axes .entry)) n r ⌝ }
+{
+    let mut least = axes[SPAN];
+    let mut b = 1;
+    while b < n {
+        let part = axes[SPAN + b];
+        if part < least {
+            least = part;
+        }
+        b += 1;
+    }
+    least
+}
+
+// The same, with the columns of 64-QAM and 16-QAM made known to the compiler.
+fn least_imaginary(axes: &[u64; AXES], n: usize) -> u64
+    requires { ⌜ (1 ≤ n) × (n ≤ span) ⌝ }
+    ensures { λ r. ⌜ NoneBelow (now (axes .entry)) n r ⌝ }
+{
+    if n == 8 {
+        return least_of(axes, 8);
+    }
+    if n == 4 {
+        return least_of(axes, 4);
+    }
+    least_of(axes, n)
+}
+
 // What the children of a node share.
 fn family_of(
     shape: Shape,
     level: usize,
     bits: u32,
+    partial: u64,
+    low: u64,
     bounds: Bounds,
     label: u32,
     points: &[i8; PLACES],
@@ -72,7 +109,7 @@ fn family_of(
 ) -> Family
     requires { ⌜ RestAsked (shape .streams) (shape .width) level bits (now points) (now numbers) × (bounds .best < 2 ^ 40)
         × (length (now limits) ≡ limitsSize) ⌝ }
-    ensures { λ r. ⌜ FamilyOf (shape .streams) (shape .width) level bits bounds label (now (numbers .entry)) (now (limits .entry)) r ⌝ }
+    ensures { λ r. ⌜ FamilyOf (shape .streams) (shape .width) level bits partial low bounds label (now (numbers .entry)) (now (limits .entry)) r ⌝ }
 {
     let m = shape.streams;
     let q = shape.width;
@@ -87,6 +124,8 @@ fn family_of(
         shape,
         level,
         bits,
+        partial,
+        low,
         base,
         cap,
         after,
@@ -181,11 +220,11 @@ fn count_columns(
     numbers: &[i32],
     tables: &[i32; TABLE],
     limits: &[u64],
-    keys: &[u64],
+    axes: &[u64; AXES],
 ) -> Counted
-    requires { ⌜ RowAsked family (now points) (now numbers) (now tables) (now limits) (now keys) a before ⌝ }
-    ensures { λ r. ⌜ (r .sure ≡ true → CountedTo (passesIn family (now (limits .entry)) (now (keys .entry)))
-        (IdleIn family (now (numbers .entry)) (now (limits .entry)) (now (keys .entry)))
+    requires { ⌜ RowAsked family (now points) (now numbers) (now tables) (now limits) (now axes) a before ⌝ }
+    ensures { λ r. ⌜ (r .sure ≡ true → CountedTo (passesIn family (now (limits .entry)) (keyIn family (now (axes .entry))))
+        (IdleIn family (now (numbers .entry)) (now (limits .entry)) (keyIn family (now (axes .entry))))
         ((a + 1) * columnCount (family .shape .width)) (r .count)) ⌝ }
 {
     let q = family.shape.width;
@@ -193,6 +232,7 @@ fn count_columns(
     let at = reach::ENTRIES + (family.level - 1) * reach::STREAM;
     let re = limits[at + (a ^ (family.own >> (q / 2)))];
     let own = family.own & (columns - 1);
+    let row = family.partial + axes[a];
     let mut count = before;
     let mut b = 0;
     while b < columns {
@@ -201,7 +241,7 @@ fn count_columns(
         let child = count_child(
             family,
             symbol,
-            keys[symbol],
+            row + axes[SPAN + b],
             wide,
             count,
             points,
@@ -218,7 +258,7 @@ fn count_columns(
     Counted { sure: true, count }
 }
 
-// The same; where the smallest key of the row is not below any limit none of its children passes.
+// The same; where no key of the row is below any limit none of its children passes.
 fn count_row(
     family: Family,
     a: usize,
@@ -227,51 +267,65 @@ fn count_row(
     numbers: &[i32],
     tables: &[i32; TABLE],
     limits: &[u64],
-    keys: &[u64],
+    axes: &[u64; AXES],
 ) -> Counted
-    requires { ⌜ RowAsked family (now points) (now numbers) (now tables) (now limits) (now keys) a before ⌝ }
-    ensures { λ r. ⌜ (r .sure ≡ true → CountedTo (passesIn family (now (limits .entry)) (now (keys .entry)))
-        (IdleIn family (now (numbers .entry)) (now (limits .entry)) (now (keys .entry)))
+    requires { ⌜ RowAsked family (now points) (now numbers) (now tables) (now limits) (now axes) a before ⌝ }
+    ensures { λ r. ⌜ (r .sure ≡ true → CountedTo (passesIn family (now (limits .entry)) (keyIn family (now (axes .entry))))
+        (IdleIn family (now (numbers .entry)) (now (limits .entry)) (keyIn family (now (axes .entry))))
         ((a + 1) * columnCount (family .shape .width)) (r .count)) ⌝ }
 {
-    let n: usize = 1 << family.shape.width;
-    if family.cap <= keys[n + a] {
+    if family.cap <= family.low + axes[a] {
         return Counted {
             sure: true,
             count: before,
         };
     }
-    count_columns(family, a, before, points, numbers, tables, limits, keys)
+    count_columns(family, a, before, points, numbers, tables, limits, axes)
 }
 
-// How many children of a node pass, of those whose keys are filled in: `level` streams are not chosen at the node, whose bits are `bits`;
-// `bounds` is what its children are held against, and `label` the best label. It is sure where below each child that passes every child
-// would be cut.
+// How many children of a node pass, from the parts of the two axes: `level` streams are not chosen at the node, whose bits are `bits` and
+// whose partial metric is `partial`; `bounds` is what its children are held against, and `label` the best label. It is sure where below each
+// child that passes every child would be cut.
 pub fn count_passing(
     shape: Shape,
     level: usize,
     bits: u32,
+    partial: u64,
     bounds: Bounds,
     label: u32,
     points: &[i8; PLACES],
     numbers: &[i32],
     tables: &[i32; TABLE],
     limits: &[u64],
-    keys: &[u64],
+    axes: &[u64; AXES],
 ) -> Counted
-    requires { ⌜ CountAsked (shape .streams) (shape .width) level bits bounds (now points) (now numbers) (now tables) (now limits) (now keys) ⌝ }
-    ensures { λ r. ⌜ (r .sure ≡ true
-        → CountedTo (childPasses (shape .streams) (shape .width) level bounds label (now (limits .entry)) (now (keys .entry)))
-        (IdleBelow (shape .streams) (shape .width) level bits bounds label (now (numbers .entry)) (now (limits .entry)) (now (keys .entry)))
+    requires { ⌜ CountAsked (shape .streams) (shape .width) level bits bounds (now points) (now numbers) (now tables) (now limits) partial
+        (now axes) ⌝ }
+    ensures { λ r. ⌜ (r .sure ≡ true → CountedTo (childPasses (shape .streams) (shape .width) level bounds label (now (limits .entry))
+        (childMetric (shape .width) partial (realIn (now (axes .entry))) (imaginaryIn (now (axes .entry)))))
+        (IdleBelow (shape .streams) (shape .width) level bits bounds label (now (numbers .entry)) (now (limits .entry))
+        (childMetric (shape .width) partial (realIn (now (axes .entry))) (imaginaryIn (now (axes .entry)))))
         (2 ^ shape .width) (r .count)) ⌝ }
 {
     let q = shape.width;
     let rows: usize = 1 << (q - q / 2);
-    let family = family_of(shape, level, bits, bounds, label, points, numbers, limits);
+    let low = partial + least_imaginary(axes, 1 << (q / 2));
+    let family = family_of(
+        shape,
+        level,
+        bits,
+        partial,
+        low,
+        bounds,
+        label,
+        points,
+        numbers,
+        limits,
+    );
     let mut count: u32 = 0;
     let mut a = 0;
-    while a < rows {
-        let row = count_row(family, a, count, points, numbers, tables, limits, keys);
+    while a != rows {
+        let row = count_row(family, a, count, points, numbers, tables, limits, axes);
         if !row.sure {
             return row;
         }

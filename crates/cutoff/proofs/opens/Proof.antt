@@ -2,11 +2,11 @@
 use borrow.Author.Needs.{needs, sfits-of}
 use Prim.Native.Nat.{ℕ, _+_, _-_, _*_, _/_, _%_, _^_, _≤_, _<_}
 use mathlib.Core.Path.{_≡_, sym, _∙_, ap, subst}
+use mathlib.Core.Logic.{⊎-elim}
 use native.Mathlib.Omega.{arith}
 use lib.Dec.{T}
 use lib.IntN.{ℤ, pos, natAbs}
 use lib.ListN.{getD}
-use lib.Pow.{pow-pos}
 use lib.Signed.{nonNeg}
 use mir.Syntax.{w64}
 use mir.Val.{SFits}
@@ -14,12 +14,14 @@ use mir.Facts.{toZ-ofZ, fits-natAbs}
 use Rattle.integers.proofs.Fits.{sfits-abs}
 use Rattle.model.specs.Block.{mostEntry}
 use Rattle.model.proofs.Numbers.{first-half}
-use Rattle.metric.specs.Parts.{nearestOf}
+use Rattle.metric.specs.Parts.{span, nearestOf}
 use Rattle.metric.specs.Rows.{rowStart}
+use Rattle.metric.specs.Tables.{Axis, axisPlace, axisBits, tablePart}
 use Rattle.metric.specs.Tables.Axis.{real, imaginary}
 use Rattle.metric.proofs.Rows.{row-end, square-few, diagonal-within}
-use Rattle.cutoff.proofs.Halves.{imaginary-lt, columns, masked}
-use Rattle.cutoff.proofs.Near.{square-small, nearIn, reach-asked, all-beyond}
+use Rattle.cutoff.specs.Axes.{NoneOver}
+use Rattle.cutoff.proofs.Halves.{imaginary-lt, labels, masked}
+use Rattle.cutoff.proofs.Near.{square-small, nearIn, part-asked, none-wide, all-beyond}
 use Rattle.cutoff.proofs.opens.Statement.{statement}
 use Rattle.cutoff.proofs.opens.Tie as tie
 
@@ -119,25 +121,48 @@ module _ (c : tie.After-nearest2) where
     square-small near-im (c .nearest2 .ensures .1),
   )
 
-real-asked : tie.Need-axis-opens-requires
+  -- The number of an axis's labels, less one the place of its widest entry
+  count : (x : Axis)
+      → let w = axisBits (start .args .shape .width) x in
+      (1 * 2 ^ w % 2 ^ 64 ≡ 2 ^ w) × (1 ≤ 2 ^ w) × (2 ^ w ≤ span)
+  count x = labels (start .args .shape .width) x (start .pre .vector .bits)
+
+real-asked : tie.Need-any-part-of-requires
 real-asked c κs =
-    let n = c .before .before in
+    let n = c .before .before .before .before in
     let s = start n in
     let f = re-fits s in
     simp toZ-ofZ
-    (reach-asked (s .pre) real _ (s .args .left .re) _ (near-re n) _ 0 _ (omega arith) (s .pre .low-re) (re-is n) (omega arith)
-    (omega (arith, small n)) (omega arith) (first-half (s .args .shape .width) (s .args .own) (s .pre .symbol)) (s .pre .widest .real))
+    (part-asked (s .pre) real _ (s .args .left .re) _ _ _ (omega arith) (s .pre .low-re) (omega (arith, small n)) (omega arith)
+    (first-half (s .args .shape .width) (s .args .own) (s .pre .symbol)))
 
-imaginary-asked : tie.Need-axis-opens-requires-2
+imaginary-asked : tie.Need-any-part-of-requires-2
 imaginary-asked c κs =
-    let n = c .before .before .before .before .before in
+    let n = c .before .before .before .before .before .before in
     let s = start n in
     let q = s .args .shape .width in
     let f = im-fits s in
     simp toZ-ofZ
     (rw (masked q (s .args .own) (s .pre .vector .bits))
-    (reach-asked (s .pre) imaginary _ (s .args .left .im) _ (near-im n) _ _ _ (omega arith) (s .pre .low-im) (im-is n) (omega arith)
-    (omega (arith, small n)) (omega arith) (imaginary-lt q (s .args .own)) (s .pre .widest .imaginary)))
+    (part-asked (s .pre) imaginary _ (s .args .left .im) _ _ _ (omega arith) (s .pre .low-im) (omega (arith, small n)) (omega arith)
+    (imaginary-lt q (s .args .own))))
+
+-- Behind the real axis no real part is below its entry: its parts were held against the entries, or the widest of these is not above `low`
+over-re : (c : tie.Joined2)
+    → let n = c .before .before .before in
+    let a = start n .args in
+    let q = a .shape .width in
+    NoneOver (a .entries .now) 0 (2 ^ (q - q / 2)) (tablePart (a .tables .now) (axisPlace (a .row) real) (a .left .re))
+    (a .partial + near-im n * near-im n) (a .own / 2 ^ (q / 2))
+over-re c =
+    let n = c .before .before .before in
+    let s = start n in
+    let q = s .args .shape .width in
+    let f = re-fits s in
+    ⊎-elim (λ t. simp toZ-ofZ at (t .2 .ensures (t .3 .left)))
+    (λ e.
+    none-wide (s .pre) real (s .args .left .re) _ (near-re n) _ _ _ (s .pre .low-re) (re-is n) (omega arith)
+    (first-half q (s .args .own) (s .pre .symbol)) (omega (arith, count n real)) (e .left)) (c .if2 .came)
 
 returns : tie.Need-returns
 returns c e = let z : _≡_ {A = ℕ} 0 1 = cc in absurd (omega arith)
@@ -147,16 +172,25 @@ returns-2 c e = let z : _≡_ {A = ℕ} 0 1 = cc in absurd (omega arith)
 
 returns-3 : tie.Need-returns-3
 returns-3 c e =
-    let o = c .before .before in
-    let l = o .before .before .before in
+    let j = c .before .before in
+    let l = j .before .before in
     let n = l .before in
     let s = start n in
     let q = s .args .shape .width in
-    let f = re-fits s in
-    let g = im-fits s in
-    all-beyond (s .pre) (near-re n) (near-im n) (s .args .base) (re-is n) (im-is n) (l .if1 .left)
-    (simp toZ-ofZ at (o .before .axis-opens .ensures (o .if2 .left)))
-    (simp (toZ-ofZ, masked q (s .args .own) (s .pre .vector .bits)) at (c .axis-opens2 .ensures e))
+    all-beyond (s .pre) (near-re n) (near-im n) (s .args .base) (re-is n) (im-is n) (l .if1 .left) (over-re j)
+    (none-wide (s .pre) imaginary (s .args .left .im) _ (near-im n) _ _ _ (s .pre .low-im) (im-is n) (omega arith)
+    (imaginary-lt q (s .args .own)) (omega (arith, count n imaginary)) (c .if4 .taken))
+
+returns-4 : tie.Need-returns-4
+returns-4 c e =
+    let j = c .before .before .before .before in
+    let l = j .before .before in
+    let n = l .before in
+    let s = start n in
+    let q = s .args .shape .width in
+    let f = im-fits s in
+    all-beyond (s .pre) (near-re n) (near-im n) (s .args .base) (re-is n) (im-is n) (l .if1 .left) (over-re j)
+    (simp (toZ-ofZ, masked q (s .args .own) (s .pre .vector .bits)) at (c .any-part-of2 .ensures e))
 
 pub opens-spec : {M : Type 1} → statement M
 opens-spec =
@@ -179,14 +213,19 @@ opens-spec =
     (λ c. search needs)
     (λ c. search needs)
     (λ c. search needs)
+    (λ c. omega (arith, count (c .before) imaginary))
     (λ c. search needs)
-    (λ c.
-    let s = start (c .before) in
-    let q = s .args .shape .width in
-    omega (arith, columns q (s .pre .vector .bits), pow-pos (q / 2)))
+    (λ c. search needs)
+    (λ c. omega (arith, count (c .before) real))
+    (λ c. omega (arith, count (c .before) real))
+    (λ c. omega (arith, count (c .before .before) real, start (c .before .before) .pre .stream))
     real-asked
     returns-2
+    (λ c. omega (arith, count (c .before .before .before) imaginary))
+    (λ c. omega (arith, count (c .before .before .before) imaginary))
+    (λ c. omega (arith, count (c .before .before .before .before) imaginary, start (c .before .before .before .before) .pre .stream))
+    returns-3
     (λ c. search needs)
     (λ c. search needs)
     imaginary-asked
-    returns-3)
+    returns-4)

@@ -1,22 +1,24 @@
 -- The invariant: the limits are as they were, and what the first j streams give is there. The array was one that had another number at the
 -- first place behind the limits, whatever that was.
-use mathlib.Core.Path.{_≡_, refl, sym, subst}
+use mathlib.Core.Path.{_≡_, refl, sym, ap, _∙_, subst}
 use mathlib.Core.List.{List}
-use Prim.Native.Nat.{ℕ, _+_, _-_, _*_, _≤_, _<_}
+use Prim.Native.Nat.{ℕ, _+_, _-_, _*_, _/_, _%_, _^_, _≤_, _<_}
+use native.Mathlib.Nat.{mul-le-mul}
+use native.Mathlib.Numerals.{add-one}
 use native.Mathlib.Omega.{arith}
 use lib.ListN.{length, set}
-use Rattle.model.specs.Block.{mostStreams, mostBits}
-use Rattle.reach.specs.Reach.{limitIn, limitsSize, Reaches}
-use Rattle.reach.proofs.Streams.{bits-few, Filling, reaches-none, reaches-more}
+use Rattle.model.specs.Block.{mostStreams, mostWidth, mostBits}
+use Rattle.reach.specs.Reach.{limitIn, limitsSize, StreamRight, symbolOf, Reaches}
+use Rattle.reach.proofs.Streams.{bits-few, Filling, reaches-none, still-right, reaches-more}
 use Rattle.reach.proofs.fill.Statement.{statement}
 use Rattle.reach.proofs.fill.Tie as tie
 
 abbrev Inv-loop : tie.InvT-loop
-Inv-loop m q limits₀ j₀ limits j =
+Inv-loop m q limits₀ changed j₀ limits j =
     (j ≤ m) × ((old : List ℕ) → limits₀ ≡ set old mostBits 0 → length old ≡ limitsSize → Filling q old limits j)
 
 abbrev μ-loop : tie.MeasureT-loop
-μ-loop m q limits₀ j₀ limits j = m - j
+μ-loop m q limits₀ changed j₀ limits j = m - j
 
 loop-holds : tie.Need-loop-holds Inv-loop μ-loop
 loop-holds c =
@@ -41,12 +43,34 @@ label c =
 
 loop-again : tie.Need-loop-again Inv-loop μ-loop
 loop-again c =
-    let i = c .before .before .before .before in
+    let i = c .before .before .before .before .before in
     let l = i .before in
     let p = l .before .before .pre in (
       omega (arith, i .loop-test .taken),
       λ old e room. reaches-more old (p .1) (label i) (l .loop .inv .1 old e room) (c .before .before .fill-stream .ensures),
     )
+
+-- The bits after the symbol of a turn are few enough for a shift
+shift-few : (c : tie.In-loop Inv-loop μ-loop)
+    → let a = c .before .before .before .args in
+    (a .m - (c .before .loop .j + 1)) * a .q ≤ mostStreams * mostWidth
+shift-few c =
+    let s = c .before .before .before in
+    let h : s .args .m - (c .before .loop .j + 1) ≤ mostStreams = omega (arith, s .pre .0) in
+    mul-le-mul h (s .pre .1)
+
+-- A stream whose limits are not changed has its entries
+stands : (c : tie.After-symbol-at Inv-loop μ-loop) → c .symbol-at .result ≡ 0
+    → let l = c .before .before in
+    StreamRight (l .before .before .args .q) (limitIn (l .loop .limits)) (l .loop .limits) (l .loop .j)
+stands c e =
+    let i = c .before in
+    let l = i .before in
+    let s = l .before .before in
+    let a = s .args in
+    let symbol : symbolOf (a .m) (a .q) (a .changed) (l .loop .j) ≡ 0 =
+    ap (λ (n : ℕ). a .changed / 2 ^ ((a .m - n) * a .q) % 2 ^ a .q) (sym (add-one (l .loop .j))) ∙ sym (c .symbol-at .ensures) ∙ e in
+    still-right (label i) (so-far l) (s .pre .4 (l .loop .j) (i .loop-test .taken) symbol)
 
 returns : tie.Need-returns Inv-loop μ-loop
 returns c =
@@ -63,9 +87,13 @@ fill-spec =
     μ-loop
     (λ c. omega arith)
     loop-holds
-    (λ c κs. (c .before .before .before .before .pre .1, inside (c .before), label (c .before), so-far (c .before .before) .made .size))
-    (λ c. omega (arith, inside (c .before .before .before .before)))
-    (λ c. omega (arith, c .before .before .before .before .loop-test .taken))
+    (λ c. omega (arith, c .loop-test .taken))
+    (λ c. omega (arith, c .loop-test .taken))
+    (λ c. omega (arith, shift-few c))
+    (λ c κs. (c .before .before .before .pre .1, omega (arith, shift-few c)))
+    (λ c κs. let i = c .before .before in (i .before .before .before .pre .1, inside i, label i, so-far (i .before) .made .size, stands (c .before)))
+    (λ c. omega (arith, inside (c .before .before .before .before .before)))
+    (λ c. omega (arith, c .before .before .before .before .before .loop-test .taken))
     loop-again
     (λ c. omega (arith, so-far (c .before) .made .size, c .before .before .before .pre .3))
     returns)

@@ -1,5 +1,4 @@
--- A leaf is taken into what is kept. Else each turn over the node's children is one step of the search below the node, as the turn's answer
--- says.
+-- Each turn over the node's children is one step of the search below the node, as the turn's answer says.
 use mathlib.Core.Logic.{⊎-elim}
 use mathlib.Core.Bool.{true, false}
 use mathlib.Core.Path.{_≡_, refl, _∙_, sym, ap, ap₂, subst}
@@ -13,7 +12,7 @@ use borrow.Fn.PlainCycle.{Measures, is, falls, and}
 use borrow.Rule.Slice.PartMut.{putMid, same-len-mid}
 use lib.ListN.{length, take, drop}
 use Rattle.metric.proofs.Shifts.{one-shifted}
-use Rattle.pruning.specs.Program.{Kept, takenIn, limitsOf, keptOf, below}
+use Rattle.pruning.specs.Program.{Kept, takenIn, limitsOf, keptOf, noted, below}
 use Rattle.pruning.proofs.Minima.{limits-part, limits-length}
 use Rattle.siblings.specs.Rows.{keyCount}
 use Rattle.search.specs.Limits.{vectorFor, minimaSize}
@@ -21,10 +20,10 @@ use Rattle.search.specs.Expand.{Filled}
 use Rattle.search.specs.Turn.{behind, nextOf, AdvanceAsked, Advanced, Renewal, NodeAsked}
 use Rattle.search.specs.declared.Node.{Node}
 use Rattle.search.specs.declared.Turn.{Turn}
-use Rattle.search.specs.declared.Turn.the-variants.{Ended, Cut, Stop, Left, Enter}
+use Rattle.search.specs.declared.Turn.the-variants.{Ended, Cut, Stop, Left, Leaf, Enter}
 use Rattle.search.proofs.Values.{room-for}
-use Rattle.search.proofs.Search.{Searching, partial-few, leaf-noted, kids-few, places-few, start, limits-asked, next-asked}
-use Rattle.search.proofs.Search.{done, ended, halts, cut, left, past, child-asked, child-in, stops, onward}
+use Rattle.search.proofs.Search.{Searching, partial-under, leaf-noted, kids-few, places-few, start, limits-asked, next-asked}
+use Rattle.search.proofs.Search.{done, ended, halts, cut, left, past, child-asked, child-in, stops, onward, onward-here}
 use Rattle.search.proofs.walk.Reads as walk
 use Rattle.search.proofs.walk.Kinds as walk-kinds
 use Rattle.search.proofs.+walk.Lts-walk as walk-lts
@@ -54,15 +53,13 @@ Inv task points numbers tables minima₀ keys₀ places n k₀ parent₀ tried�
     × Searching (task .streams) (task .width) (task .clip) numbers (task .allowance) parent
     (below (vectorFor task numbers) (task .allowance) (parent₀ .level) (parent₀ .bits) (parent₀ .partial)
     (keptOf (k₀ .count) false (takenIn (k₀ .label) (k₀ .best) minima₀))) tried keys
-    (keptOf (k .count) (k .stopped) (takenIn (k .label) (k .best) minima)) (limitsOf minima)
+    (keptOf (k .count) (k .stopped) (takenIn (k .label) (k .best) minima)) (limitsOf minima) × (tried ≤ n)
 
 abbrev μ-loop : walk-lts.MeasureT-loop
 μ-loop task points numbers tables minima₀ keys₀ places n k₀ parent₀ tried₀ minima keys k parent tried = n - tried
 
 abbrev calls : ℕ → walk-lts.Claims
 calls t = (
-  take-leaf-reads.Asked,
-  take-leaf-reads.Learnt,
   key-places-reads.Asked,
   key-places-reads.Learnt,
   advance-reads.Asked,
@@ -73,10 +70,12 @@ calls t = (
   counted-with-reads.Learnt,
   counted-reads.Asked,
   counted-reads.Learnt,
-  walk-below t,
-  walk.Post,
+  take-leaf-reads.Asked,
+  take-leaf-reads.Learnt,
   renew-node-reads.Asked,
   renew-node-reads.Learnt,
+  walk-below t,
+  walk.Post,
 )
 
 -- A turn, back to the loop, to the node and to the start
@@ -85,7 +84,7 @@ module _ (t : ℕ) (c : walk-lts.After-advance (calls t) (walk-at t) walk.Post I
   loop = c .before .before .before .before .before
 
   abbrev begin : walk-lts.Start (calls t) (walk-at t) walk.Post Inv μ-loop
-  begin = c .before .before .before .before .before .before .before .before .before .before .before .before
+  begin = c .before .before .before .before .before .before .before .before .before .before
 
   -- The state before it
   searching : let a = begin .args in
@@ -97,7 +96,7 @@ module _ (t : ℕ) (c : walk-lts.After-advance (calls t) (walk-at t) walk.Post I
   searching = loop .loop .inv .5
 
   more : loop .loop .tried < 2 ^ begin .args .task .width
-  more = omega (arith, loop .loop .inv .0, c .before .before .before .before .loop-test .taken)
+  more = omega (arith, loop .loop .inv .0, loop .loop .inv .6, c .before .before .before .before .loop-test .taken)
 
   -- The child that it takes
   abbrev next : Node
@@ -173,7 +172,44 @@ module _ (t : ℕ) (c : walk-lts.After-counted-with (calls t) (walk-at t) walk.P
   counted-found =
       let e = c .counted-with .ensures in
       (λ j. keptOf (e .0 j) (e .1 j) (same-taken j))
-      ∙ left (searching t counting) (more t counting) (over .0 .took) (over .0 .passes) (over .0 .more) (over .1)
+      ∙ left (searching t counting) (more t counting) (over .0 .took) (over .0 .passes) (over .0 .more) (over .1) (over .2)
+
+-- The child is a leaf, and was taken: what is kept then
+module _ (t : ℕ) (c : walk-lts.After-take-leaf (calls t) (walk-at t) walk.Post Inv μ-loop) where
+  abbrev reaching : walk-lts.After-advance (calls t) (walk-at t) walk.Post Inv μ-loop
+  reaching = c .before .before .before .before .before .before .before .before
+
+  abbrev reached : let g = c .before .before .before .before .leaf .given in CameTo t reaching (Leaf (g .0 .0))
+  reached = let g = c .before .before .before .before .leaf .given in answers t reaching (Leaf (g .0 .0)) (g .1)
+
+  abbrev minimaThen : List ℕ
+  minimaThen = c .take-leaf .last .1 .1 .1 .1 .0
+
+  abbrev leafKept : Kept
+  leafKept =
+      keptOf (c .take-leaf .result .count) (c .take-leaf .result .stopped)
+      (takenIn (c .take-leaf .result .label) (c .take-leaf .result .best) minimaThen)
+
+  -- The search goes on
+  leaf-runs : leafKept .stopped ≡ false
+  leaf-runs =
+      ap (λ (x : Kept). x .stopped) (c .take-leaf .ensures .0) ∙ c .before .before .counted .ensures .1 ∙ searching t reaching .running
+
+  leaf-found : let a = begin t reaching .args in
+      let l = loop t reaching .loop in
+      let n = next t reaching in
+      leafKept ≡ below (vectorFor (a .task) (a .numbers .now)) (a .task .allowance) (n .level) (n .bits) (n .partial)
+      (keptOf (l .k .count + 1) false (takenIn (l .k .label) (l .k .best) (l .minima)))
+  leaf-found =
+      let a = begin t reaching .args in
+      let l = loop t reaching .loop in
+      let h = c .before .before .counted .ensures in
+      rw (h .0, h .1, h .2, h .3) at (c .take-leaf .ensures .0)
+      ∙ ap
+      (λ (n : Node).
+      keptOf (l .k .count + 1) (l .k .stopped)
+      (noted (vectorFor (a .task) (a .numbers .now)) (n .bits) (n .partial) (takenIn (l .k .label) (l .k .best) (l .minima)))) (reached .1)
+      ∙ leaf-noted (child-in (searching t reaching) (more t reaching)) _ _ (reached .2) _ _ (searching t reaching .running)
 
 -- The child is to be searched: what the turn says of it
 module _ (t : ℕ) (c : walk-lts.After-child (calls t) (walk-at t) walk.Post Inv μ-loop) where
@@ -201,7 +237,7 @@ module _ (t : ℕ) (c : walk-lts.After-walk (calls t) (walk-at t) walk.Post Inv 
   found =
       let a = begin t (turned t entry) .args in
       let l = loop t (turned t entry) .loop in
-      let h = c .before .before .before .counted .ensures in
+      let h = c .before .before .before .counted2 .ensures in
       rw (h .0, h .2, h .3) at (c .walk .ensures .0)
       ∙ ap
       (λ (n : Node).
@@ -228,28 +264,25 @@ module _ (t : ℕ) (c : walk-lts.After-walk (calls t) (walk-at t) walk.Post Inv 
 
 pub +walk-spec : {M : Type 1} → statement M
 +walk-spec = close μ-walk λ t. walk-lts.spec (calls t) (walk-at t) walk.Post Inv μ-loop
-    (λ c κs. let s = c .before .before .before .before .before in let w = s .pre .1 .0 in (w .node .asked, partial-few (w .node), w .lowest, s .pre .1 .3))
-    (λ c. c .before .before .take-leaf .ensures .2 ∙ sym (c .before .before .before .before .before .before .before .before .pre .1 .3))
-    (λ c. let s = c .before .before .before .before .before .before .before .before in let r = c .before .before .take-leaf .ensures in
-    (r .0 ∙ leaf-noted (s .pre .1 .0 .node) _ _ (c .before .before .before .before .if1 .taken) _ _ (s .pre .1 .1), r .1, r .2))
-    (λ c κs. c .before .before .before .before .pre .1 .0 .node .asked .vector .bits)
-    (λ c. omega (arith, c .before .before .before .before .before .before .pre .1 .0 .node .asked .vector .bits))
-    (λ c. let s = c .before .before .before .before .before .before in let w = s .pre .1 .0 in let inner : 0 < s .args .node .level = omega (arith, c .before .before .if1 .left) in (
+    (λ c κs. c .before .before .pre .1 .0 .node .asked .vector .bits)
+    (λ c. omega (arith, c .before .before .before .before .pre .1 .0 .node .asked .vector .bits))
+    (λ c. let s = c .before .before .before .before in let w = s .pre .1 .0 in (
       one-shifted (s .args .task .width) (omega (arith, w .node .asked .vector .bits)),
       c .before .key-places .ensures,
       s .pre .1 .3,
       refl,
       refl,
-      start (w .node) inner _ _ (w .lowest) (w .limited) (w .opposed) _ _ (w .room) (s .pre .1 .5 inner) _ _ (s .pre .1 .1),
+      start (w .node) (s .pre .1 .5) _ _ (w .lowest) (w .limited) (w .opposed) _ _ (w .room) (s .pre .1 .6) _ _ (s .pre .1 .1),
+      omega arith,
     ))
     (λ c. omega (arith, c .before .loop .inv .2))
     (λ c. omega (arith, c .before .before .loop .inv .2))
     (λ c. le-refl _)
-    (λ c κs. let l = c .before .before .before .before in let s = c .before .before .before .before .before .before .before .before .before .before .before in let h = l .loop .inv .5 in
+    (λ c κs. let l = c .before .before .before .before in let s = c .before .before .before .before .before .before .before .before .before in let h = l .loop .inv .5 in
     subst (λ (limits : List ℕ). AdvanceAsked (s .args .task) (s .args .points .now) (s .args .numbers .now) (s .args .tables .now) (l .loop .parent) (l .loop .k) limits (l .loop .keys))
     (sym (limits-part (l .loop .minima)))
     (record {
-      child = child-in h (omega (arith, l .loop .inv .0, c .before .before .before .loop-test .taken));
+      child = child-in h (omega (arith, l .loop .inv .0, l .loop .inv .6, c .before .before .before .loop-test .taken));
       tabled = s .pre .1 .2;
       pointed = s .pre .1 .4;
       limited = limits-asked (h .node) _ _ (h .limited);
@@ -273,17 +306,26 @@ pub +walk-spec : {M : Type 1} → statement M
     (λ c. let a = counting t (c .before) in loop t a .loop .inv .2 ∙ sym (begin t a .pre .1 .3))
     (λ c. let a = counting t (c .before) in after-length t a ∙ loop t a .loop .inv .3)
     (λ c. let w = c .before in let a = counting t w in let n = over t w .0 in
-    (stops (searching t a) (more t a) (n .took) (n .passes) (n .more) (counted t w) (counted-found t w) (c .if2 .taken), rw (same-taken t w) (searching t a .limited), loop t a .loop .inv .2))
+    (stops (searching t a) (more t a) (n .took) (n .passes) (n .more) (counted t w) (counted-found t w) (c .if1 .taken), rw (same-taken t w) (searching t a .limited), loop t a .loop .inv .2))
     (λ c. c .match .keys4)
+    (λ c κs. let a = c .before .before .before .before .before in let g = c .before .leaf .given in countable t a (answers t a (Leaf (g .0 .0)) (g .1) .0 .more))
+    (λ c κs. let a = c .before .before .before .before .before .before .before in let l = loop t a .loop in let h = searching t a in let g = c .before .before .before .leaf .given in let r = answers t a (Leaf (g .0 .0)) (g .1) in
+    (h .node .asked, omega (arith, ap (λ (n : Node). n .partial) (r .1), partial-under (child-in h (more t a))), l .inv .2, rw (c .before .counted .ensures .2, c .before .counted .ensures .3) (h .limited)))
+    (λ c. omega (arith, c .before .before .take-leaf .ensures .2))
+    (λ c. omega (arith, c .before .before .before .take-leaf .ensures .2))
+    (λ c. le-refl _)
+    (λ c κs. let w = c .before .before .before .before in let n = searching t (reaching t w) .node in let m = minimaThen t w in
+    (n .asked .vector .streams, n .asked .vector .bits, n .inside, rw (limits-part m) (limits-length m ∙ omega (arith, w .take-leaf .ensures .2))))
+    (λ c. c .match .keys5)
     (λ c κs. countable t (c .before .before .before .before .before) (entered t (c .before) .0 .more))
     (λ c. let a = c .before .before .before .before .before .before .before in omega (arith, loop t a .loop .inv .1, places-few (searching t a .node)))
     (λ c. let a = c .before .before .before .before .before .before .before in rw (loop t a .loop .inv .1) (wide t a))
     (λ c. let a = c .before .before .before .before .before .before .before in rw (loop t a .loop .inv .1) (wide t a))
     (λ c. le-refl _)
-    (λ c κs. let e = c .before .before .before .before in let a = turned t e in let s = begin t a in let l = loop t a .loop in let h = searching t a in let r = entered t e in let k = c .before .before .counted .ensures in (
+    (λ c κs. let e = c .before .before .before .before in let a = turned t e in let s = begin t a in let l = loop t a .loop in let h = searching t a in let r = entered t e in let k = c .before .before .counted2 .ensures in (
       omega (arith, s .pre .0, l .inv .4, h .inner, ap (λ (n : Node). n .level) (r .1)),
       (
-        subst (λ (n : Node). NodeAsked (s .args .task .streams) (s .args .task .width) (s .args .task .clip) (s .args .numbers .now) n (takenIn (c .before .before .counted .result .label) (c .before .before .counted .result .best) (l .minima)) (limitsOf (l .minima)) (lower t a)) (sym (r .1))
+        subst (λ (n : Node). NodeAsked (s .args .task .streams) (s .args .task .width) (s .args .task .clip) (s .args .numbers .now) n (takenIn (c .before .before .counted2 .result .label) (c .before .before .counted2 .result .best) (l .minima)) (limitsOf (l .minima)) (lower t a)) (sym (r .1))
             (rw (k .2, k .3)
             (subst (λ (keys : List ℕ). NodeAsked (s .args .task .streams) (s .args .task .width) (s .args .task .clip) (s .args .numbers .now) (next t a) (takenIn (l .k .label) (l .k .best) (l .minima)) (limitsOf (l .minima)) keys) (sym (lower-is t a))
             (child-asked h (more t a) (r .0 .took) (r .0 .passes) (r .0 .more)))),
@@ -291,24 +333,23 @@ pub +walk-spec : {M : Type 1} → statement M
         s .pre .1 .2,
         l .inv .2,
         s .pre .1 .4,
-        λ inner.
-            subst (λ (n : Node). Filled (s .args .task .streams) (s .args .task .width) (s .args .numbers .now) n (lower t a)) (sym (r .1))
-            (subst (λ (keys : List ℕ). Filled (s .args .task .streams) (s .args .task .width) (s .args .numbers .now) (next t a) keys) (sym (lower-is t a))
-            (r .2 (omega (arith, ap (λ (n : Node). n .level) (r .1))))),
+        omega (arith, ap (λ (n : Node). n .level) (r .1), r .2),
+        subst (λ (n : Node). Filled (s .args .task .streams) (s .args .task .width) (s .args .numbers .now) n (lower t a)) (sym (r .1))
+            (subst (λ (keys : List ℕ). Filled (s .args .task .streams) (s .args .task .width) (s .args .numbers .now) (next t a) keys) (sym (lower-is t a)) (r .3)),
       ),
     ))
     (λ c. let w = c .before .before .before .before .before in w .walk .ensures .2 ∙ sym (begin t (turned t (entry t w)) .pre .1 .3))
     (λ c. let w = c .before .before .before .before .before in let a = turned t (entry t w) in then-length t w ∙ after-length t a ∙ loop t a .loop .inv .3)
     (λ c. let w = c .before .before .before .before .before in let e = entry t w in let a = turned t e in let n = entered t e .0 in
-    (stops (searching t a) (more t a) (n .took) (n .passes) (n .more) (kept t w) (found t w) (c .if3 .taken), w .walk .ensures .1, w .walk .ensures .2))
+    (stops (searching t a) (more t a) (n .took) (n .passes) (n .more) (kept t w) (found t w) (c .if2 .taken), w .walk .ensures .1, w .walk .ensures .2))
     (λ c. omega (arith, c .before .before .before .before .before .walk .ensures .2))
     (λ c. omega (arith, c .before .before .before .before .before .before .walk .ensures .2))
     (λ c. le-refl _)
     (λ c κs. let w = c .before .before .before .before .before .before .before in let a = turned t (entry t w) in let n = searching t a .node in let m = w .walk .last .1 .1 .1 .1 .1 .1 .0 in
     (n .asked .vector .streams, n .asked .vector .bits, n .inside, rw (limits-part m) (limits-length m ∙ omega (arith, w .walk .ensures .2))))
-    (λ c. c .match .keys5)
+    (λ c. c .match .keys6)
     (λ c. let a = c .before .before .before in omega (arith, more t a, kids-few (searching t a .node)))
-    (λ c. omega (arith, c .before .before .before .before .before .before .before .loop-test .taken))
+    (λ c. let a = c .before .before .before in omega (arith, more t a, loop t a .loop .inv .0))
     (λ c. let a = c .before .before .before in let l = loop t a .loop in let h = searching t a in
     ⊎-elim
     (λ x. let w : walk-lts.After-counted-with (calls t) (walk-at t) walk.Post Inv μ-loop = record { before = record { before = record { before = record { before = c .before; match = x .0 }; more = x .1 }; known-told = x .2 }; counted-with = x .3 } in let n = over t w .0 in (
@@ -318,9 +359,22 @@ pub +walk-spec : {M : Type 1} → statement M
       rw (x .6) (after-length t a ∙ l .inv .3),
       rw (x .8) (l .inv .4),
       rw (x .5, x .6, x .7, x .8) (past h (more t a) (n .took) (n .passes) (n .more) (counted t w) (counted-found t w) (same-taken t w) (x .4 .left)),
+      omega (arith, more t a, l .inv .0),
     ))
     (⊎-elim
-    (λ x. let w : walk-lts.After-walk (calls t) (walk-at t) walk.Post Inv μ-loop = record { before = record { before = record { before = record { before = record { before = record { before = record { before = c .before; match = x .0 }; child = x .1 }; known-told2 = x .2 }; counted = x .3 }; walk-arg = x .4 }; walk-arg2 = x .5 }; walk = x .6 } in let s = begin t a in let n = entered t (entry t w) .0 in (
+    (λ x. let w : walk-lts.After-take-leaf (calls t) (walk-at t) walk.Post Inv μ-loop = record { before = record { before = record { before = record { before = record { before = record { before = c .before; match = x .0 }; leaf = x .1 }; known-told2 = x .2 }; counted = x .3 }; take-leaf-arg = x .4 }; take-leaf = x .5 } in let s = begin t a in let n = reached t w .0 in (
+      l .inv .0,
+      l .inv .1,
+      rw (x .11) (x .5 .ensures .2),
+      rw (x .12) (after-length t a ∙ l .inv .3),
+      rw (x .14) (x .10 .ensures .level-is ∙ l .inv .4),
+      rw (x .11, x .12, x .13, x .14)
+          (onward-here h (more t a) (n .took) (n .passes) (n .more) (leafKept t w) (leaf-found t w) (leaf-runs t w) (x .5 .ensures .1) _
+          (subst (λ (limits : List ℕ). Renewal (s .args .task .streams) (s .args .task .width) (x .5 .result .label) limits (l .parent) (x .10 .result)) (limits-part (minimaThen t w)) (x .10 .ensures))),
+      omega (arith, more t a, l .inv .0),
+    ))
+    (⊎-elim
+    (λ x. let w : walk-lts.After-walk (calls t) (walk-at t) walk.Post Inv μ-loop = record { before = record { before = record { before = record { before = record { before = record { before = record { before = c .before; match = x .0 }; child = x .1 }; known-told3 = x .2 }; counted2 = x .3 }; walk-arg = x .4 }; walk-arg2 = x .5 }; walk = x .6 } in let s = begin t a in let n = entered t (entry t w) .0 in (
       l .inv .0,
       l .inv .1,
       rw (x .15) (x .6 .ensures .2),
@@ -334,6 +388,7 @@ pub +walk-spec : {M : Type 1} → statement M
           (kept t w) (limitsOf (x .6 .last .1 .1 .1 .1 .1 .1 .0))) (sym (then-is t w))
           (onward h (more t a) (n .took) (n .passes) (n .more) (kept t w) (found t w) (x .11 .left) (x .6 .ensures .1) _ (ap length (sym (then-is t w)) ∙ then-length t w) _
           (subst (λ (limits : List ℕ). Renewal (s .args .task .streams) (s .args .task .width) (x .6 .result .label) limits (l .parent) (x .14 .result)) (limits-part (x .6 .last .1 .1 .1 .1 .1 .1 .0)) (x .14 .ensures)))),
+      omega (arith, more t a, l .inv .0),
     ))
     (λ x. let r = answers t a Cut (x .1 .given .1) in (
       l .inv .0,
@@ -342,8 +397,9 @@ pub +walk-spec : {M : Type 1} → statement M
       rw (x .3) (after-length t a ∙ l .inv .3),
       rw (x .5) (l .inv .4),
       rw (x .2, x .3, x .4, x .5) (cut h (more t a) (r .0) (r .1)),
-    )))
+      omega (arith, more t a, l .inv .0),
+    ))))
     (c .match .came))
-    (λ c. c .before .loop .inv .2 ∙ sym (c .before .before .before .before .before .before .before .before .pre .1 .3))
+    (λ c. c .before .loop .inv .2 ∙ sym (c .before .before .before .before .before .before .pre .1 .3))
     (λ c. c .before .loop .inv .3)
     (λ c. let l = c .before in (done (l .loop .inv .5) (omega (arith, l .loop .inv .0, c .loop-test .left)), l .loop .inv .5 .limited, l .loop .inv .2))

@@ -1,7 +1,6 @@
--- Each answer is one case of the definition: the node's own test, then the child's, the allowance, and the test of the child's children.
+-- Each answer is one case of the definition: the node's own test, then the child's, the allowance, and what is found of the child's children.
 use Prim.Native.Nat.{ℕ, _+_, _-_, _*_, _≤_, _<_, _^_}
 use mathlib.Core.Path.{_≡_, refl, sym, _∙_, ap, subst}
-use mathlib.Core.Bool.{Bool, true, false}
 use mathlib.Core.List.{List}
 use mathlib.Core.Logic.{inl, inr}
 use native.Mathlib.Omega.{arith}
@@ -14,11 +13,12 @@ use Rattle.pruning.proofs.Arrays.{part-length}
 use Rattle.siblings.specs.Rows.{keyCount, Took}
 use Rattle.model.specs.Block.{mostWidth}
 use Rattle.search.specs.Limits.{passesAt}
-use Rattle.search.specs.Expand.{Filled, Shut}
-use Rattle.search.specs.Turn.{behind, nextOf, BelowAsked, BelowCounted, Counts}
+use Rattle.search.specs.Expand.{ExpandAsked, Expanded}
+use Rattle.search.specs.Turn.{behind, nextOf, Counts}
 use Rattle.search.specs.declared.Node.{Node}
-use Rattle.search.proofs.Levels.{withLower, lower-length, lower-behind, lower-took}
-use Rattle.search.proofs.Search.{partial-few}
+use Rattle.search.specs.declared.Children.{Children}
+use Rattle.search.specs.declared.Children.the-variants.{Nothing, Number, Keys}
+use Rattle.search.proofs.Levels.{withLower, lower-behind, lower-took}
 use Rattle.search.proofs.Values.{keys-rise, room-for, room-below}
 use Rattle.search.proofs.advance.Statement.{statement}
 use Rattle.search.proofs.advance.Tie as tie
@@ -51,41 +51,58 @@ wide c =
     let s = start c in
     room-for (s .args .node .level) (s .args .task .width) (s .pre .next .inner) _ (omega (arith, s .pre .room, c .next-child .ensures .took .size))
 
+-- It passes, and the allowance has a node left: it is counted
+counts : (c : tie.Else3)
+    → let n = c .before .before .before .before .before .before .before in
+    let a = start n .args in
+    (new : List ℕ) → Took (a .task .width) (a .keys .now) new (leastFirst (a .keys .now) (2 ^ a .task .width))
+    → Counts (a .task) (a .numbers .now) (a .node) (a .kept) (a .limits .now) (a .keys .now) new
+counts c new took = record {
+  took = took;
+  passes = sym (tested (c .before .before .before .before)) ∙ not-false _ (c .before .before .before .if2 .left);
+  more = c .if3 .left;
+}
+
 -- From where the places are known back to the child
 abbrev known : tie.After-key-places → tie.After-next-child
-known c = c .before .before .before .before .before .before .before .before
+known c = c .before .before .before .before .before .before .before .before .before .before
 
 places : (c : tie.After-key-places) → c .key-places .result ≡ keyCount (start (known c) .args .task .width)
 places c = c .key-places .ensures
+
+-- The child has children
+inner : (c : tie.After-key-places) → 0 < child (known c) .level
+inner c = omega (arith, ap (λ (x : Node). x .level) (known c .next-child .ensures .is), c .before .if4 .left)
 
 expand-requires : tie.Need-expand-requires
 expand-requires c κs =
     let p = c .before in
     let n = known p in
     let s = start n in
+    let a = s .args in
     let is = n .next-child .ensures .is in
-    record {
-      vector = s .pre .child .asked .vector;
+    let many = ap (λ (x : ℕ). length (take (length (taken n) - x) (drop x (taken n)))) (places p) in
+    subst (λ (x : Node). ExpandAsked (a .task) (a .points .now) (a .numbers .now) (a .tables .now) x (a .kept .best) (a .limits .now)
+    (take (length (taken n) - p .key-places .result) (drop (p .key-places .result) (taken n)))) (sym is)
+    (record {
+      node = s .pre .child;
+      inner = inner p;
       tabled = s .pre .tabled;
       pointed = s .pre .pointed;
       limited = s .pre .limited;
-      inside = omega (arith, ap (λ (x : Node). x .level) is, s .pre .next .inside);
-      low = omega (arith, ap (λ (x : Node). x .partial) is, partial-few (s .pre .child));
       lowest = s .pre .lowest;
       room =
           omega (
             arith,
-            ap (λ (x : Node). x .level * keyCount (s .args .task .width)) is,
-            room-below (s .args .node .level) (s .args .task .width) (s .pre .next .inner) (taken n) (omega (arith, s .pre .room, n .next-child .ensures .took .size)),
-            ap (λ (x : ℕ). length (take (length (taken n) - x) (drop x (taken n)))) (places p),
+            room-below (a .node .level) (a .task .width) (s .pre .next .inner) (taken n) (omega (arith, s .pre .room, n .next-child .ensures .took .size)),
+            many,
           );
-    }
+    })
 
 -- The keys behind the node's own after the child's children were looked at
 abbrev lower : tie.After-expand → List ℕ
 lower c = c .expand .last .1 .1 .1 .1 .1 .1 .1 .0
 
--- The child is counted
 module _ (c : tie.After-expand) where
   abbrev p : tie.After-key-places
   p = c .before .before
@@ -102,83 +119,26 @@ module _ (c : tie.After-expand) where
   after-is : after ≡ withLower (start n .args .task .width) (taken n) (lower c) (wide n) many
   after-is = ap (λ (x : ℕ). putMid x (length (taken n) - x) (taken n) (lower c)) (places p)
 
-  counts : let a = start n .args in Counts (a .task) (a .numbers .now) (a .node) (a .kept) (a .limits .now) (a .keys .now) after
-  counts =
-      let t = p .before .before .before .before in
+  -- The child is counted
+  counted : let a = start n .args in Counts (a .task) (a .numbers .now) (a .node) (a .kept) (a .limits .now) (a .keys .now) after
+  counted =
       let a = start n .args in
-      record {
-        took =
-            subst (λ (x : List ℕ). Took (a .task .width) (a .keys .now) x (leastFirst (a .keys .now) (2 ^ a .task .width))) (sym after-is)
-            (lower-took (a .task .width) (taken n) (lower c) (wide n) many (n .next-child .ensures .took));
-        passes = sym (tested (t .before)) ∙ not-false _ (t .if2 .left);
-        more = p .before .if3 .left;
-      }
+      counts (p .before .before .before) after
+      (subst (λ (x : List ℕ). Took (a .task .width) (a .keys .now) x (leastFirst (a .keys .now) (2 ^ a .task .width))) (sym after-is)
+      (lower-took (a .task .width) (taken n) (lower c) (wide n) many (n .next-child .ensures .took)))
 
-  -- and its children's keys stand behind the node's
-  filled : c .expand .result ≡ true → 0 < child n .level
+  -- and this is found of its children
+  found : (r : Children) → c .expand .result ≡ r
       → let a = start n .args in
-      Filled (a .task .streams) (a .task .width) (a .numbers .now) (child n) (behind (a .task .width) after)
-  filled e h =
+      Expanded (a .task .streams) (a .task .width) (a .numbers .now) (child n) (a .kept .label) (a .kept .best) (a .limits .now) (behind (a .task .width) after) r
+  found r e =
       let a = start n .args in
-      let is = n .next-child .ensures .is in
-      subst (λ (x : List ℕ). Filled (a .task .streams) (a .task .width) (a .numbers .now) (child n) x)
+      subst (λ (keys : List ℕ). Expanded (a .task .streams) (a .task .width) (a .numbers .now) (child n) (a .kept .label) (a .kept .best) (a .limits .now) keys r)
       (sym (ap (behind (a .task .width)) after-is ∙ lower-behind (a .task .width) (taken n) (lower c) (wide n) many))
-      (subst (λ (x : Node). Filled (a .task .streams) (a .task .width) (a .numbers .now) x (lower c)) is
-      (c .expand .ensures .filled e (omega (arith, ap (λ (x : Node). x .level) is))))
-
-  -- or all of them would be cut
-  shut : c .expand .result ≡ false
-      → let a = start n .args in
-      _≡_ {A = ℕ} 0 0 × (0 < child n .level) × Shut (a .task .streams) (a .task .width) (a .numbers .now) (child n) (a .kept .label) (a .kept .best) (a .limits .now)
-  shut e =
-      let a = start n .args in
-      let is = n .next-child .ensures .is in (
-        refl,
-        omega (arith, ap (λ (x : Node). x .level) is, c .expand .ensures .inner e),
-        subst (λ (x : Node). Shut (a .task .streams) (a .task .width) (a .numbers .now) x (a .kept .label) (a .kept .best) (a .limits .now)) is
-            (c .expand .ensures .shut e),
-      )
-
-  after-length : length after ≡ length (taken n)
-  after-length = ap length after-is ∙ lower-length (start n .args .task .width) (taken n) (lower c) (wide n) many
-
-  -- The keys of its children, as they are lent
-  abbrev lent : List ℕ
-  lent = take (length after - p .key-places .result) (drop (p .key-places .result) after)
-
-  lent-is : lent ≡ behind (start n .args .task .width) after
-  lent-is = ap (λ (x : ℕ). take (length after - x) (drop x after)) (places p)
-
-  counted-as : {count : ℕ}
-      → let a = start n .args in
-      BelowCounted (a .task .streams) (a .task .width) (a .numbers .now) (n .next-child .result) (a .kept .label) (a .kept .best) (a .limits .now) lent count
-      → BelowCounted (a .task .streams) (a .task .width) (a .numbers .now) (child n) (a .kept .label) (a .kept .best) (a .limits .now)
-      (behind (a .task .width) after) count
-  counted-as {count} h =
-      let a = start n .args in
-      subst
-      (λ (keys : List ℕ). BelowCounted (a .task .streams) (a .task .width) (a .numbers .now) (child n) (a .kept .label) (a .kept .best) (a .limits .now) keys count)
-      lent-is
-      (subst (λ (x : Node). BelowCounted (a .task .streams) (a .task .width) (a .numbers .now) x (a .kept .label) (a .kept .best) (a .limits .now) lent count)
-      (n .next-child .ensures .is) h)
-
-count-below-requires : tie.Need-count-below-requires
-count-below-requires c κs =
-    let e = c .before .before .before .before .before in
-    let s = start (n e) in
-    let a = s .args in
-    subst (λ (x : Node). BelowAsked (a .task) (a .points .now) (a .numbers .now) (a .tables .now) x (a .kept .best) (a .limits .now) (lent e))
-    (sym (n e .next-child .ensures .is))
-    (record {
-      node = s .pre .child;
-      tabled = s .pre .tabled;
-      pointed = s .pre .pointed;
-      limited = s .pre .limited;
-      lowest = s .pre .lowest;
-      filled = λ h.
-          subst (λ (keys : List ℕ). Filled (a .task .streams) (a .task .width) (a .numbers .now) (child (n e)) keys) (sym (lent-is e))
-          (filled e (not-false _ (c .before .before .if4 .left)) h);
-    })
+      (subst (λ (x : Node). Expanded (a .task .streams) (a .task .width) (a .numbers .now) x (a .kept .label) (a .kept .best) (a .limits .now) (lower c) r)
+      (n .next-child .ensures .is)
+      (subst (λ (x : Children). Expanded (a .task .streams) (a .task .width) (a .numbers .now) (n .next-child .result) (a .kept .label) (a .kept .best) (a .limits .now) (lower c) x)
+      e (c .expand .ensures)))
 
 pub advance-spec : {M : Type 1} → statement M
 advance-spec =
@@ -197,21 +157,21 @@ advance-spec =
     (λ c. let n = c .before .before .before .before in (n .next-child .ensures .took, sym (tested (c .before)) ∙ not-true _ (c .if2 .taken)))
     (λ c. search needs)
     (λ c. (sym (tested (c .before .before .before .before)) ∙ not-false _ (c .before .before .before .if2 .left), c .if3 .taken))
-    (λ c κs. start (c .before .before .before .before .before .before .before) .pre .next .bits)
+    (λ c. search needs)
+    (λ c. let e = c .before .before in let n = e .before .before .before .before .before .before .before in let is = n .next-child .ensures .is in
+    (counts e (taken n) (n .next-child .ensures .took), is, omega (arith, ap (λ (x : Node). x .level) is, c .if4 .taken)))
+    (λ c κs. start (c .before .before .before .before .before .before .before .before .before) .pre .next .bits)
     (λ c. let s = start (known c) in omega (arith, places c, keys-rise (s .pre .next .bits)))
     (λ c. omega (arith, places c, wide (known c)))
     (λ c. omega (arith, places c, wide (known c)))
     (λ c. search needs)
     expand-requires
+    (λ c. c .match .keys1)
+    (λ c. c .match .keys2)
+    (λ c. c .match .keys3)
     (λ c. search needs)
-    (λ c. let e = c .before .before .before in (counts e, inl (shut e (not-true _ (c .if4 .taken)))))
-    (λ c. let e = c .before .before .before in let p = e .before .before in omega (arith, places p, keys-rise (start (known p) .pre .next .bits)))
-    (λ c. let e = c .before .before .before in omega (arith, places (p e), wide (n e), after-length e))
-    (λ c. let e = c .before .before .before .before in omega (arith, places (p e), wide (n e), after-length e))
+    (λ c. let e = c .before .before .before .before in (counted e, inner (p e), inl (refl, found e Nothing (c .enum-told .given .1))))
     (λ c. search needs)
-    count-below-requires
+    (λ c. let e = c .before .before .before .before .before in let m = c .before .count .given in (counted e, inner (p e), inr (found e (Number (m .0 .0)) (m .1))))
     (λ c. search needs)
-    (λ c. let e = c .before .before .before .before .before .before .before in (counts e, inr (counted-as e (c .before .count-below .ensures (c .if5 .taken)))))
-    (λ c. search needs)
-    (λ c. let e = c .before .before .before .before .before .before .before in
-    (counts e, n e .next-child .ensures .is, filled e (not-false _ (c .before .before .before .before .if4 .left)))))
+    (λ c. let e = c .before .before .before .before in (counted e, n e .next-child .ensures .is, inner (p e), found e Keys (c .enum-told2 .given .1))))

@@ -1,63 +1,51 @@
--- The walk of the root is the search below it, and so is nothing where all of its children would be cut.
-use Prim.Native.Nat.{ℕ}
-use mathlib.Core.Path.{sym, subst}
-use mathlib.Core.List.{List}
+-- The keys of the root's children are their partial metrics, and the walk of the root is the search below it.
+use Prim.Native.Nat.{_*_, _-_, _≤_, _<_}
+use mathlib.Core.Path.{refl, sym, _∙_}
 use native.Mathlib.Omega.{arith}
 use borrow.Author.Needs.{needs}
-use Rattle.pruning.proofs.Minima.{limits-part}
-use Rattle.search.specs.Expand.{ExpandAsked, Shut}
-use Rattle.search.proofs.Search.{partial-few, limits-asked, shut}
+use Rattle.metric.specs.Parts.{span}
+use Rattle.metric.specs.Rows.{Measured}
+use Rattle.metric.proofs.Filled.{zeros-small}
+use Rattle.search.proofs.Kids.{filled-in}
+use Rattle.search.proofs.Search.{partial-few, row-inside}
+use Rattle.search.proofs.Values.{room-for}
 use Rattle.search.proofs.begin.Statement.{statement}
 use Rattle.search.proofs.begin.Tie as tie
 
-expand-requires : tie.Need-expand-requires
-expand-requires c κs =
-    let s = c .before .before .before .before .before in
-    let a = s .args in
-    let w = s .pre .0 in
-    subst (λ (limits : List ℕ). ExpandAsked (a .task) (a .points .now) (a .numbers .now) (a .tables .now) (a .root) (a .kept .best) limits (a .keys .now))
-    (sym (limits-part (a .minima .now)))
-    (record {
-      vector = w .node .asked .vector;
-      tabled = s .pre .2;
-      pointed = s .pre .4;
-      limited = limits-asked (w .node) _ _ (w .limited);
-      inside = w .node .inside;
-      low = partial-few (w .node);
-      lowest = w .lowest;
-      room = w .room;
-    })
+-- From where what remains of y is known back to the start
+abbrev start : tie.After-remainder → tie.Start
+start c = c .before .before .before .before
+
+-- The parts are measured
+abbrev left : tie.After-fill-parts → tie.After-remainder
+left c = c .before .before
+
+parts : (c : tie.After-fill-parts)
+    → let s = start (left c) in
+    Measured (s .args .task .streams) (s .args .task .width) (s .args .numbers .now) (s .args .root .level - 1) (s .args .root .bits)
+    (c .fill-parts .last .1 .1 .1 .1 .1 .0)
+parts c = c .fill-parts .ensures (start (left c) .args .root .bits) (left c .remainder .ensures .0)
 
 walk-requires : tie.Need-walk-requires
 walk-requires c κs =
-    let e = c .before .before .before .before .before in
-    let s = e .before .before .before .before .before .before in
+    let k = c .before .before .before .before in
+    let f = k .before .before .before in
+    let s = start (left f) in
+    let a = s .args in
     let w = s .pre .0 in (
       record {
         node = w .node;
         lowest = w .lowest;
         limited = w .limited;
         opposed = w .opposed;
-        room = omega (arith, w .room, e .expand .kept .1 .1 .1 .1 .1 .1 .1 .0);
+        room = omega (arith, w .room, k .fill .ensures .size);
       },
-      s .pre .1,
       s .pre .2,
       s .pre .3,
       s .pre .4,
-      e .expand .ensures .filled (c .before .before .if1 .taken),
-    )
-
-returns-2 : tie.Need-returns-2
-returns-2 c =
-    let e = c .before .before .before in
-    let s = e .before .before .before .before .before .before in
-    let a = s .args in
-    let w = s .pre .0 in
-    let r = e .expand .ensures in (
-      shut (w .node) (r .inner (c .if1 .left)) _ _ (w .limited) (w .opposed) (a .task .allowance)
-          (subst (λ (limits : List ℕ). Shut (a .task .streams) (a .task .width) (a .numbers .now) (a .root) (a .kept .label) (a .kept .best) limits)
-          (limits-part (a .minima .now)) (r .shut (c .if1 .left))) (a .kept .count) (a .kept .stopped) (s .pre .1),
-      s .pre .3,
+      s .pre .5,
+      s .pre .1,
+      filled-in (a .task .streams) (a .task .width) (a .numbers .now) (a .root) (parts f) (k .fill .ensures),
     )
 
 pub begin-spec : {M : Type 1} → statement M
@@ -65,13 +53,12 @@ begin-spec =
     tie.close
     (tie.spec
     (λ c. search needs)
-    (λ c. search needs)
-    (λ c. search needs)
-    expand-requires
+    (λ c κs. let s = c .before .before .before in (s .pre .0 .node .asked .vector, row-inside (s .pre .0 .node) (s .pre .1), s .pre .5))
+    (λ c κs. let r = c .before in let s = start r in
+    (s .pre .0 .node .asked .vector, s .pre .3, row-inside (s .pre .0 .node) (s .pre .1), r .remainder .ensures .1, r .remainder .ensures .2, refl, zeros-small (2 * span)))
+    (λ c κs. let f = c .before .before in let s = start (left f) in let w = s .pre .0 in
+    (w .node .asked .vector .bits, omega (arith, partial-few (w .node)), parts f .size, parts f .small, room-for (s .args .root .level) (s .args .task .width) (s .pre .1) _ (w .room)))
     walk-requires
     (λ c. search needs)
     (λ c. search needs)
-    (λ c. search needs)
-    (λ c. search needs)
-    (λ c. search needs)
-    returns-2)
+    (λ c. let w = c .before .before .before .before in (w .walk .ensures .0, w .walk .ensures .2)))

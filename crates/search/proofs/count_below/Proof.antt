@@ -1,4 +1,4 @@
--- What counting asks follows from the node's keys being filled in; where it is not asked nothing is said.
+-- What counting asks follows from the parts being measured; where it is not asked nothing is said.
 use Prim.Native.Nat.{ℕ, suc, _-_, _≤_, _<_}
 use mathlib.Core.Path.{_≡_, sym, subst}
 use mathlib.Core.Bool.{true≢false}
@@ -6,13 +6,15 @@ use native.Mathlib.Omega.{arith}
 use borrow.Author.Needs.{needs}
 use lib.ListN.{getD}
 use Rattle.reach.specs.Reach.{firstPlace, streamReach}
-use Rattle.search.proofs.Search.{node-placed, filled-low}
+use Rattle.search.proofs.Search.{node-placed, kid-low}
+use Rattle.tally.proofs.Counting.{counted-by}
+use Rattle.search.specs.Expand.{boundsOf, kidOf}
 use Rattle.search.proofs.count_below.Statement.{statement}
 use Rattle.search.proofs.count_below.Tie as tie
 
 -- From where the node is known to have two streams to choose
 abbrev start : tie.Else1 → tie.Start
-start c = c .before .before .before .before
+start c = c .before .before .before
 
 two : (c : tie.Else1) → start c .args .node .level ≡ 2
 two c = omega (arith, c .if1 .left)
@@ -22,9 +24,8 @@ count-passing-requires c κs =
     let e = c .before .before .before .before .before .before in
     let s = start e in
     let n = s .args .node in
-    let w = s .pre .node in
+    let w = s .pre .parts .node in
     let inner : 0 < n .level = omega (arith, two e) in
-    let filled = s .pre .filled inner in
     let up : suc (n .level - 1) ≡ n .level = omega arith in
     record {
       vector = w .asked .vector;
@@ -33,14 +34,27 @@ count-passing-requires c κs =
       above-leaves = omega (arith, two e);
       inside = w .inside;
       placed = node-placed w;
-      lowest = omega (arith, s .pre .lowest);
+      lowest = omega (arith, s .pre .parts .lowest);
       capped = λ x h.
           subst (λ (l : ℕ). streamReach (s .args .task .width) (s .args .limits .now) (n .level - 1) x ≤ getD (s .args .limits .now) (firstPlace l) 0) up
-          (s .pre .limited .wider (n .level - 1) x (omega (arith, w .inside)) h);
-      size = s .pre .limited .size;
-      widest = s .pre .limited .widest (n .level - 2) (omega (arith, w .inside, two e));
-      rows = filled .rows;
-      small = λ x h. omega (arith, filled-low w inner (s .args .keys .now) filled x h);
+          (s .pre .parts .limited .wider (n .level - 1) x (omega (arith, w .inside)) h);
+      size = s .pre .parts .limited .size;
+      widest = s .pre .parts .limited .widest (n .level - 2) (omega (arith, w .inside, two e));
+      measured = s .pre .parts .measured .size;
+      small = λ x h. rw (← s .pre .parts .measured .child (n .partial) x h) (omega (arith, kid-low w inner x));
+    }
+
+returns-2 : tie.Need-returns-2
+returns-2 c e =
+    let t = c .before .before .before .before .before .before .before in
+    let s = start t in
+    let a = s .args in
+    let n = a .node in
+    record {
+      above-leaves = omega (arith, two t);
+      counted =
+          counted-by (a .task .streams) (a .task .width) (n .level) (n .bits) (a .kept .label) (boundsOf (a .kept .best) (a .limits .now) n) (a .numbers .now) (a .limits .now) _
+          (kidOf (a .task .streams) (a .task .width) (a .numbers .now) n) (λ x h. sym (s .pre .parts .measured .child (n .partial) x h)) (c .count-passing .ensures e);
     }
 
 pub count-below-spec : {M : Type 1} → statement M
@@ -56,8 +70,4 @@ count-below-spec =
     (λ c. search needs)
     (λ c. search needs)
     count-passing-requires
-    (λ c e. let n = c .before .before .before .before .before .before .before in record {
-      above-leaves = omega (arith, two n);
-      filled = start n .pre .filled (omega (arith, two n));
-      counted = c .count-passing .ensures e;
-    }))
+    returns-2)

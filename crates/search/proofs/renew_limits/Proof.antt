@@ -1,10 +1,11 @@
 -- The limits are filled in behind the minima, and then what they give behind the limits.
 use borrow.Author.Needs.{needs}
-use mathlib.Core.Path.{sym}
+use mathlib.Core.Path.{sym, _∙_}
 use Rattle.model.specs.Metric.{Vector}
 use Rattle.block.proofs.Places.{rows-count}
+use Rattle.reach.proofs.Passing.{none-stands}
 use Rattle.search.specs.Limits.{vectorFor}
-use Rattle.search.proofs.Renewed.{part-whole, renewed}
+use Rattle.search.proofs.Renewed.{lentLimits, lent-whole, made-whole, made-kept, made-right, renewed}
 use Rattle.search.proofs.renew_limits.Statement.{statement}
 use Rattle.search.proofs.renew_limits.Tie as tie
 
@@ -13,19 +14,39 @@ v s = vectorFor (s .args .task) (s .args .numbers .now)
 
 fill-requires : tie.Need-fill-requires
 fill-requires c κs =
-    let s = c .before .before .before .before .before .before in (
-      s .pre .0 .vector .streams,
-      s .pre .0 .vector .bits,
-      s .pre .0 .vector .label,
-      part-whole (v s) (s .args .task .streams) (sym (rows-count _ _ _)) (s .pre .0 .vector .label) (s .args .best .label)
-          (s .args .best .metric) (s .args .minima .now) _ (s .pre .2) (c .before .before .before .limit-all .ensures),
+    let l = c .before .before .before in
+    let s = l .before .before .before in
+    let p = s .pre .0 .vector in
+    let mid = l .limit-all .last .1 .1 .1 .0 in (
+      p .streams,
+      p .bits,
+      p .label,
+      lent-whole mid
+          (made-whole (v s) (s .args .task .streams) (p .label) (s .args .best .label) (s .args .best .metric) (s .args .minima .now) mid
+          (s .pre .2) (l .limit-all .ensures)),
+      none-stands (s .args .task .streams) (s .args .task .width) (lentLimits mid) (p .bit) (p .label),
     )
 
 returns : tie.Need-returns
 returns c =
-    let s = c .before .before .before .before .before .before .before .before .before in
-    renewed (v s) (s .args .task .streams) (sym (rows-count _ _ _)) (s .pre .0 .vector .label) (s .args .best .label)
-    (s .args .best .metric) (s .args .minima .now) _ (s .pre .2) (c .before .before .before .before .before .before .limit-all .ensures) _ (c .before .before .fill .ensures)
+    let f = c .before .before in
+    let l = f .before .before .before .before in
+    let s = l .before .before .before in
+    let m = s .args .task .streams in
+    let few = s .pre .0 .vector .label in
+    let label = s .args .best .label in
+    let best = s .args .best .metric in
+    let old = s .args .minima .now in
+    let mid = l .limit-all .last .1 .1 .1 .0 in
+    let made = l .limit-all .ensures in
+    let whole = made-whole (v s) m few label best old mid (s .pre .2) made in
+    let right = made-right (v s) m few label best old mid (s .pre .2) made in
+    let r = renewed (v s) m (sym (rows-count _ _ _)) (s .pre .0 .vector .bits) label best mid whole right (f .fill .last .1 .1 .0) (f .fill .ensures) in
+    record {
+      size = r .size ∙ whole ∙ sym (s .pre .2);
+      kept = r .kept ∙ made-kept (v s) m few label best old mid (s .pre .2) made;
+      limited = r .limited;
+    }
 
 pub renew-limits-spec : {M : Type 1} → statement M
 renew-limits-spec =

@@ -1,4 +1,4 @@
--- The children are measured, and the column with the smallest imaginary part gives the smallest of each row.
+-- The children are measured, and the column with the smallest imaginary part gives the smallest of each row, and is kept for each row.
 use borrow.Author.Needs.{needs}
 use Prim.Native.Nat.{_+_, _-_, _/_, _≤_, _<_, _^_}
 use mathlib.Core.Path.{_≡_, ap, _∙_}
@@ -7,6 +7,7 @@ use lib.ListN.{length, getD}
 use lib.Pow.{pow-pos, pow-mono}
 use Rattle.metric.specs.Parts.{axisWidth, span}
 use Rattle.metric.proofs.Shifts.{one-shifted}
+use Rattle.metric.proofs.Filled.{from-length}
 use Rattle.metric.proofs.Pass.{pass-length}
 use Rattle.siblings.proofs.Filling.{placed}
 use Rattle.siblings.proofs.fill.Statement.{statement}
@@ -41,16 +42,30 @@ fill-least-requires c κs =
     rw (one-shifted q (omega (arith, s .pre .0)), one-shifted (q - q / 2) (omega (arith, s .pre .0)))
     (omega (arith, base-small f), s .pre .3, pow-mono w, omega (arith, same, s .pre .4))
 
+fill-columns-requires : tie.Need-fill-columns-requires
+fill-columns-requires c κs =
+    let l = c .before .before .before in
+    let f = l .before .before .before in
+    let s = f .before .before .before .before .before .before .before in
+    let q = s .args .q in
+    let w : q - q / 2 ≤ axisWidth = omega (arith, s .pre .0) in
+    let same =
+    ap length (l .fill-least .ensures) ∙ from-length _ _ _ _ ∙ ap length (f .before .before .before .before .fill-children .ensures)
+    ∙ pass-length _ _ _ _ _ in
+    rw (one-shifted q (omega (arith, s .pre .0)), one-shifted (q - q / 2) (omega (arith, s .pre .0)))
+    (pow-mono w, omega (arith, same, s .pre .4))
+
 returns : tie.Need-returns
 returns c =
-    let l = c .before .before in
+    let k = c .before .before in
+    let l = k .before .before .before .before in
     let f = l .before .before .before in
     let s = f .before .before .before .before .before .before .before in
     let q = s .args .q in
     let h = s .pre .0 in
-    placed q _ _ _ (s .args .partial) (s .args .axes .now) (s .args .keys .now) _ _ (f .least-first .result) (s .pre .4)
+    placed q _ _ _ (s .args .partial) (s .args .axes .now) (s .args .keys .now) _ _ _ (f .least-first .result) (s .pre .4)
     (one-shifted q (omega arith)) (one-shifted (q / 2) (omega arith)) (one-shifted (q - q / 2) (omega arith))
-    (f .least-first .ensures .0) (f .before .before .before .before .fill-children .ensures) (l .fill-least .ensures)
+    (f .least-first .ensures .0) (f .before .before .before .before .fill-children .ensures) (l .fill-least .ensures) (k .fill-columns .ensures)
 
 pub fill-spec : {M : Type 1} → statement M
 fill-spec =
@@ -67,5 +82,8 @@ fill-spec =
     (λ c. search needs)
     (λ c. search needs)
     fill-least-requires
+    (λ c. search needs)
+    (λ c. search needs)
+    fill-columns-requires
     (λ c. search needs)
     returns)

@@ -12,7 +12,7 @@ least-first-requires : tie.Need-least-first-requires
 least-first-requires c κs =
     let s = c .before in
     let q = s .args .q in
-    rw (one-shifted q (omega (arith, s .pre .0)), one-shifted (q - q / 2) (omega (arith, s .pre .0))) (pow-pos (q - q / 2), s .pre .1 .wide)
+    rw (one-shifted q (omega (arith, s .pre .0)), one-shifted (q - q / 2) (omega (arith, s .pre .0))) (pow-pos (q - q / 2), omega (arith, s .pre .1 .wide))
 
 returns : tie.Need-returns
 returns c =

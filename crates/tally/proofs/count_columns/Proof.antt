@@ -12,22 +12,23 @@ use Rattle.model.specs.Block.{mostWidth}
 use Rattle.metric.specs.Parts.{span}
 use Rattle.metric.specs.Tables.Axis.{real, imaginary}
 use Rattle.metric.proofs.Grid.{row-room}
-use Rattle.cutoff.proofs.Halves.{columns, masked}
+use Rattle.cutoff.proofs.Halves.{labels, masked}
 use Rattle.reach.specs.Reach.{entryPlace}
 use Rattle.siblings.specs.Rows.{columnCount}
 use Rattle.tally.specs.Tally.{CountedTo}
-use Rattle.tally.specs.Family.{wideIn, passesIn, IdleIn}
-use Rattle.tally.proofs.Counting.{never, counted-few, counted-child, row-limits, real-entry, imaginary-entry}
+use Rattle.tally.specs.Family.{wideIn, keyIn, passesIn, IdleIn}
+use Rattle.tally.proofs.Counting.{never, counted-few, counted-child, row-key, row-small, row-limits}
+use Rattle.tally.proofs.Counting.{rows-few, columns-few, real-entry, imaginary-entry}
 use Rattle.tally.proofs.count_columns.Statement.{statement}
 use Rattle.tally.proofs.count_columns.Tie as tie
 
 abbrev Inv-loop : tie.InvT-loop
-Inv-loop family a before points numbers tables limits keys q columns at re own count₀ b₀ count b =
+Inv-loop family a before points numbers tables limits axes q columns at re own row count₀ b₀ count b =
     (b ≤ columnCount (family .shape .width))
-    × CountedTo (passesIn family limits keys) (IdleIn family numbers limits keys) (a * columnCount (family .shape .width) + b) count
+    × CountedTo (passesIn family limits (keyIn family axes)) (IdleIn family numbers limits (keyIn family axes)) (a * columnCount (family .shape .width) + b) count
 
 abbrev μ-loop : tie.MeasureT-loop
-μ-loop family a before points numbers tables limits keys q columns at re own count₀ b₀ count b = columns - b
+μ-loop family a before points numbers tables limits axes q columns at re own row count₀ b₀ count b = columns - b
 
 -- The row
 module _ (s : tie.Start Inv-loop μ-loop) where
@@ -38,7 +39,7 @@ module _ (s : tie.Start Inv-loop μ-loop) where
   few = s .pre .family .asked .vector .bits
 
   row-columns : 1 * 2 ^ (width / 2) % 2 ^ 64 ≡ columnCount width
-  row-columns = columns width few
+  row-columns = labels width imaginary few .0
 
   own-column : bitAnd (s .args .family .own) (1 * 2 ^ (width / 2) % 2 ^ 64 - 1) ≡ s .args .family .own % 2 ^ (width / 2)
   own-column = masked width (s .args .family .own) few
@@ -51,10 +52,13 @@ module _ (s : tie.Start Inv-loop μ-loop) where
   in-row : bitXor (s .args .a) (s .args .family .own / 2 ^ (width / 2)) < span
   in-row = real-entry width (s .args .a) (s .args .family .own) few (s .pre .row) (s .pre .family .own)
 
+  in-axis : s .args .a < span
+  in-axis = omega (arith, s .pre .row, rows-few width few)
+
 -- One of its columns
 module _ (c : tie.In-loop Inv-loop μ-loop) where
   abbrev start : tie.Start Inv-loop μ-loop
-  start = c .before .before .before .before .before .before .before .before
+  start = c .before .before .before .before .before .before .before .before .before
 
   abbrev symbol : ℕ
   symbol = start .args .a * columnCount (width start) + c .before .loop .b
@@ -64,6 +68,9 @@ module _ (c : tie.In-loop Inv-loop μ-loop) where
 
   inside : symbol < 2 ^ width start
   inside = omega (arith, row-room (width start) (start .args .a) (start .pre .row), column)
+
+  in-parts : c .before .loop .b < span
+  in-parts = omega (arith, column, columns-few (width start) (few start))
 
   small : 2 ^ width start ≤ 2 ^ mostWidth
   small = pow-mono (few start)
@@ -95,18 +102,20 @@ loop-again c =
     let k = c .before .before in
     let i = k .before .before .before .before in
     let s = start i in
+    let f = s .args .family in
+    let axes = s .args .axes .now in
     let more : s .args .a * columnCount (width s) + (i .before .loop .b + 1) ≡ symbol i + 1 = omega arith in (
       omega (arith, column i),
       rw more
-          (counted-child (s .args .family) (s .args .numbers .now) (s .args .limits .now) (s .args .keys .now) _ _ (i .before .loop .inv .1)
-          (wide-is i _ (k .before .before .larger .ensures))
+          (counted-child f (s .args .numbers .now) (s .args .limits .now) (keyIn f axes) _ _ _ (i .before .loop .inv .1)
+          (wide-is i _ (k .before .before .larger .ensures)) (row-key f axes (s .args .a) (i .before .loop .b) (column i))
           (rw (row-columns s) at (k .count-child .ensures (not-false _ (c .if1 .left))))),
     )
 
 returns-2 : tie.Need-returns-2 Inv-loop μ-loop
 returns-2 c e =
     let l = c .before in
-    let s = l .before .before .before .before .before .before .before in
+    let s = l .before .before .before .before .before .before .before .before in
     let done : s .args .a * columnCount (width s) + l .loop .b ≡ (s .args .a + 1) * columnCount (width s) =
     omega (arith, c .loop-test .left, row-columns s, l .loop .inv .0, suc-mul (s .args .a) (columnCount (width s))) in
     rw done at (l .loop .inv .1)
@@ -117,17 +126,22 @@ count-columns-spec =
     (tie.spec
     Inv-loop
     μ-loop
-    (λ c. omega (arith, few (c .before .before)))
-    (λ c. levels (c .before .before .before) .0)
-    (λ c. omega (arith, levels (c .before .before .before) .1))
-    (λ c. omega (arith, levels (c .before .before .before) .1))
-    (λ c. omega (arith, few (c .before .before .before .before)))
-    (λ c. let s = c .before .before .before .before in omega (arith, levels s .1, in-row s))
-    (λ c. let s = c .before .before .before .before in omega (arith, levels s .1, in-row s))
-    (λ c. let s = c .before .before .before .before .before in omega (arith, levels s .1, in-row s, s .pre .family .size))
-    (λ c. let s = c .before .before .before .before .before in omega (arith, row-columns s, pow-pos (width s / 2)))
+    (λ c. omega (arith, few (c .before)))
+    (λ c. levels (c .before .before) .0)
+    (λ c. omega (arith, levels (c .before .before) .1))
+    (λ c. omega (arith, levels (c .before .before) .1))
+    (λ c. omega (arith, few (c .before .before .before)))
+    (λ c. let s = c .before .before .before in omega (arith, levels s .1, in-row s))
+    (λ c. let s = c .before .before .before in omega (arith, levels s .1, in-row s))
+    (λ c. let s = c .before .before .before .before in omega (arith, levels s .1, in-row s, s .pre .family .size))
+    (λ c. let s = c .before .before .before .before in omega (arith, row-columns s, pow-pos (width s / 2)))
+    (λ c. omega (arith, in-axis (c .before .before .before .before .before)))
+    (λ c. omega (arith, in-axis (c .before .before .before .before .before)))
     (λ c.
-    let s = c .before .before .before .before .before .before in
+    let s = c .before .before .before .before .before .before .before in
+    omega (arith, row-small (s .pre) 0 (pow-pos (width s / 2))))
+    (λ c.
+    let s = c .before .before .before .before .before .before .before in
     (omega arith, rw (add-zero (s .args .a * columnCount (width s))) (s .pre .counted)))
     (λ c. rw (row-columns (start c)) (omega (arith, inside c, small c)))
     (λ c. rw (row-columns (start c)) (omega (arith, inside c, small c)))
@@ -136,11 +150,13 @@ count-columns-spec =
     (λ c. omega (arith, levels (start c) .1, in-column c))
     (λ c. let i = c .before in omega (arith, levels (start i) .1, in-column i, start i .pre .family .size))
     (λ c κs. search needs)
-    (λ c. let i = c .before .before in rw (row-columns (start i)) (omega (arith, inside i, small i)))
-    (λ c. let i = c .before .before .before in rw (row-columns (start i)) (omega (arith, inside i, start i .pre .rows .wide)))
+    (λ c. omega (arith, in-parts (c .before .before), in-column (c .before .before)))
+    (λ c. omega (arith, in-parts (c .before .before), in-column (c .before .before)))
+    (λ c. omega (arith, in-parts (c .before .before), in-column (c .before .before)))
+    (λ c. let i = c .before .before .before in omega (arith, row-small (start i .pre) (i .before .loop .b) (column i)))
     (λ c κs.
     let i = c .before .before .before in
-    rw (row-columns (start i)) (start i .pre .family, inside i, start i .pre .small (symbol i) (inside i), count-small i))
+    rw (row-columns (start i)) (start i .pre .family, inside i, row-small (start i .pre) (i .before .loop .b) (column i), count-small i))
     (λ c e. absurd (never (sym e ∙ not-true _ (c .if1 .taken))))
     (λ c. omega arith)
     (λ c. omega arith)
