@@ -6,26 +6,24 @@ use native.Mathlib.Nat.{mod-lt, zero-add}
 use native.Mathlib.Omega.{arith}
 use lib.Bits.{bitXor, bitAnd, and-mask, xor-lt, xor-shr, xor-mod}
 use lib.ListN.{getD}
-use lib.Pow.{pow-pos, pow-mono}
+use lib.Pow.{pow-pos}
 use Rattle.model.specs.Block.{mostWidth}
 use Rattle.metric.specs.Parts.{span, childMetric}
 use Rattle.metric.specs.Tables.{Axis, axisBits}
 use Rattle.metric.specs.Tables.Axis.{imaginary}
-use Rattle.metric.proofs.Shifts.{one-shifted}
 use Rattle.metric.proofs.Tables.{axis-few}
 use Rattle.model.proofs.Numbers.{first-half}
-use Rattle.cutoff.specs.Cut.{symbolReach, WidestLast, Beyond}
-use Rattle.cutoff.specs.Axes.{NoneOver}
+use Rattle.cutoff.specs.Cut.{symbolReach, Beyond}
+use Rattle.cutoff.specs.Axes.{NoneOver, WidestLast}
+use Rattle.cutoff.proofs.Runs.{labels-few}
 
 pub imaginary-lt : (q s : ℕ) → s % 2 ^ (q / 2) < 2 ^ (q / 2)
 imaginary-lt q s = mod-lt s (pow-pos (q / 2))
 
--- The number of an axis's labels, as it is made by a shift: there are some, and not more than its entries
+-- The number of an axis's labels, of a row's two
 pub labels : (q : ℕ) (x : Axis) → q ≤ mostWidth
     → (1 * 2 ^ axisBits q x % 2 ^ 64 ≡ 2 ^ axisBits q x) × (1 ≤ 2 ^ axisBits q x) × (2 ^ axisBits q x ≤ span)
-labels q x h =
-    let few = axis-few q x h in
-    (one-shifted (axisBits q x) (omega arith), pow-pos (axisBits q x), pow-mono few)
+labels q x h = labels-few (axisBits q x) (axis-few q x h)
 
 -- The low bits of a symbol are its imaginary label
 pub masked : (q own : ℕ) → q ≤ mostWidth → bitAnd own (1 * 2 ^ (q / 2) % 2 ^ 64 - 1) ≡ own % 2 ^ (q / 2)
@@ -77,3 +75,7 @@ parts-beyond q partial re im row column base entries own low-re low-im low over-
       above-base = omega (arith, least .0);
       above-own = omega (arith, least .1, none-over q re im (partial + row) (partial + column) entries own over-re over-im s h);
     }
+
+-- A child of a higher partial metric would be cut too
+pub beyond-more : (q base : ℕ) (entries : List ℕ) (own d e s : ℕ) → Beyond q base entries own d s → d ≤ e → Beyond q base entries own e s
+beyond-more q base entries own d e s cut h = record { above-base = omega (arith, cut .above-base); above-own = omega (arith, cut .above-own) }

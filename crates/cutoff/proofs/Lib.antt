@@ -1,4 +1,6 @@
 pub mod Runs
 pub mod Halves
+pub mod Bits
 pub mod Near
-pub mod Stored
+pub mod Parts
+mod Costs

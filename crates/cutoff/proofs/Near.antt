@@ -1,4 +1,5 @@
--- What is known of the children before a part is made: no label's part is below the square of the nearest distance on its axis.
+-- What is known of the children by the distances alone: no label's squared distance is below the square of the nearest on its axis, and no
+-- child's partial metric is below what the squared distances of its two labels come to.
 use Prim.Native.Nat.{ℕ, suc, _+_, _-_, _*_, _/_, _%_, _^_, _≤_, _<_}
 use mathlib.Core.Path.{_≡_}
 use mathlib.Core.List.{List}
@@ -8,22 +9,20 @@ use lib.IntN.{ℤ, pos, natAbs}
 use lib.ListN.{getD}
 use Rattle.model.specs.Constellation.{bitsOf}
 use Rattle.constellation.specs.Points.{complexOf}
-use Rattle.metric.specs.Parts.{span, nearestOf}
+use Rattle.metric.specs.Parts.{span, axisDistance, nearestOf}
 use Rattle.metric.specs.Rows.{rowStart, rowAt, remainderOf, childOf}
-use Rattle.metric.specs.Tables.{Axis, axisPlace, axisBits, tablePart}
+use Rattle.metric.specs.Tables.{Axis, axisBits}
 use Rattle.metric.specs.Tables.Axis.{real, imaginary}
-use Rattle.metric.proofs.Bridge.{axis-asked, part-small, part-near, child-parts}
-use Rattle.cutoff.specs.Cut.{WidestLast, OpensAsked, Beyond}
-use Rattle.cutoff.specs.Axes.{NoneOver, PartAsked}
-use Rattle.cutoff.proofs.Halves.{none-wider, parts-beyond}
+use Rattle.metric.proofs.Bridge.{distance-near, child-distances}
+use Rattle.metric.proofs.Rows.{diagonal-within}
+use Rattle.metric.proofs.Tables.{axis-few}
+use Rattle.cutoff.specs.Cut.{OpensAsked, Beyond}
+use Rattle.cutoff.specs.Axes.{NoneOver, WidestLast, ByBits, BitAsked}
+use Rattle.cutoff.proofs.Halves.{none-wider, parts-beyond, beyond-more}
 
 -- A distance's square
 pub square-small : (n : ℕ) → n < 2 ^ 30 → n * n < 2 ^ 60
 square-small n h = let k : n ≤ 2 ^ 30 - 1 = omega arith in omega (arith, mul-le-mul k k)
-
--- The nearest distance on an axis of a row
-abbrev pub nearIn : ℕ → ℕ → List ℤ → ℕ → Axis → ℤ → ℕ
-nearIn m q numbers row x left = nearestOf (natAbs (getD numbers (rowStart m row) (pos 0))) (axisBits q x) (natAbs left)
 
 -- Where an axis's entries begin among a stream's
 abbrev pub entriesFrom : Axis → ℕ
@@ -34,48 +33,56 @@ entries-from : (x : Axis) → entriesFrom x ≤ span
 entries-from real = omega arith
 entries-from imaginary = omega arith
 
-module _ {m q row : ℕ} {re im : ℤ} {partial : ℕ} {numbers tables : List ℤ} {entries : List ℕ} {own : ℕ}
-    (asked : OpensAsked m q row re im partial numbers tables entries own) where
-  -- What holding an axis's parts against its entries asks
-  pub part-asked : (x : Axis) (at : ℕ) (left : ℤ) (other from label : ℕ) → at ≡ axisPlace row x → natAbs left < 2 ^ 30 → other < 2 ^ 63
-      → from ≡ entriesFrom x → label < 2 ^ axisBits q x → PartAsked tables at left (axisBits q x) other entries from label
-  part-asked x at left other from label here remains added begins below = rw (here, begins) (record {
-    axis = axis-asked (asked .vector) row (asked .inside) (asked .tabled) x left remains;
-    small = part-small (asked .vector) row (asked .inside) (asked .tabled) x left remains;
-    added = added;
-    place = entries-from x;
-    stream = asked .stream;
-    label = below;
-  })
-
-  -- No entry of an axis is wider than its last
+module _ {m q row : ℕ} {re im : ℤ} {partial : ℕ} {numbers : List ℤ} {entries : List ℕ} {own : ℕ}
+    (asked : OpensAsked m q row re im partial numbers entries own)
+    (diagonal : ℕ) (stands : diagonal ≡ natAbs (getD numbers (rowStart m row) (pos 0))) where
+  -- No entry of an axis is wider than its last, nor than its bits
   widest-last : (x : Axis) → WidestLast entries (entriesFrom x) (axisBits q x)
   widest-last real = asked .widest .real
   widest-last imaginary = asked .widest .imaginary
 
-  -- Where that is not above `low`, and `low` not above the square of the axis's nearest distance with `other`, no part with `other`
-  -- is below its entry
-  pub none-wide : (x : Axis) (left : ℤ) (other near low last label : ℕ) → natAbs left < 2 ^ 30 → near ≡ nearIn m q numbers row x left
-      → low ≤ other + near * near → label < 2 ^ axisBits q x → last ≡ entriesFrom x + (2 ^ axisBits q x - 1) → getD entries last 0 ≤ low
-      → NoneOver entries (entriesFrom x) (2 ^ axisBits q x) (tablePart tables (axisPlace row x) left) other label
-  none-wide x left other near low last label remains is least below here shut =
-      none-wider entries (entriesFrom x) (axisBits q x) (tablePart tables (axisPlace row x) left) other low last label (widest-last x)
-      (λ g h. omega (arith, rw is at least, part-near (asked .vector) row (asked .inside) (asked .tabled) x left remains g h)) below here shut
+  by-bits : (x : Axis) → ByBits entries (entriesFrom x) (axisBits q x)
+  by-bits real = asked .widest .real-bits
+  by-bits imaginary = asked .widest .imaginary-bits
 
-  -- Where the nearest distances of both axes are not below `base`, and no part with that of the other axis is below its entry, every child
-  -- would be cut
-  pub all-beyond : (near-re near-im base : ℕ) → near-re ≡ nearIn m q numbers row real re
-      → near-im ≡ nearIn m q numbers row imaginary im
+  -- An axis with what remains on it, and its nearest distance. `other` is added to a squared distance, and `low` is not above the least
+  module _ (x : Axis) (left : ℤ) (other near low label : ℕ) (is : near ≡ nearestOf diagonal (axisBits q x) (natAbs left))
+      (least : low ≤ other + near * near) (below : label < 2 ^ axisBits q x) where
+    -- What holding the limits of its bits against the distances asks
+    pub bit-asked : (from : ℕ) → natAbs left < 2 ^ 30 → other < 2 ^ 62 → from ≡ entriesFrom x
+        → BitAsked left diagonal (axisBits q x) other low entries from label
+    bit-asked from remains added begins = rw begins (record {
+      bits = axis-few q x (asked .vector .bits);
+      remains = remains;
+      entry = omega (arith, stands, diagonal-within (asked .vector) row (asked .inside));
+      added = added;
+      nearest = rw is at least;
+      place = entries-from x;
+      stream = asked .stream;
+      by-bits = by-bits x;
+      label = below;
+    })
+
+    -- Where the widest entry is not above `low`, no squared distance with `other` is below its entry
+    pub none-wide : (last : ℕ) → last ≡ entriesFrom x + (2 ^ axisBits q x - 1) → getD entries last 0 ≤ low
+        → NoneOver entries (entriesFrom x) (2 ^ axisBits q x) (axisDistance left (pos diagonal) (axisBits q x)) other label
+    none-wide last here shut =
+        none-wider entries (entriesFrom x) (axisBits q x) (axisDistance left (pos diagonal) (axisBits q x)) other low last label
+        (widest-last x) (λ g h. omega (arith, rw is at least, distance-near left (pos diagonal) (axisBits q x) g)) below here shut
+
+  -- Where the nearest distances of both axes are not below `base`, and no squared distance with that of the other axis is below its entry,
+  -- every child would be cut
+  pub all-beyond : (near-re near-im base : ℕ) → near-re ≡ nearestOf diagonal (q - q / 2) (natAbs re)
+      → near-im ≡ nearestOf diagonal (q / 2) (natAbs im)
       → base ≤ partial + near-re * near-re + near-im * near-im
-      → NoneOver entries 0 (2 ^ (q - q / 2)) (tablePart tables (axisPlace row real) re) (partial + near-im * near-im) (own / 2 ^ (q / 2))
-      → NoneOver entries span (2 ^ (q / 2)) (tablePart tables (axisPlace row imaginary) im) (partial + near-re * near-re)
-      (own % 2 ^ (q / 2))
+      → NoneOver entries 0 (2 ^ (q - q / 2)) (axisDistance re (pos diagonal) (q - q / 2)) (partial + near-im * near-im) (own / 2 ^ (q / 2))
+      → NoneOver entries span (2 ^ (q / 2)) (axisDistance im (pos diagonal) (q / 2)) (partial + near-re * near-re) (own % 2 ^ (q / 2))
       → (node : ℕ) → complexOf re im ≡ remainderOf q (rowAt m q numbers row) (bitsOf ((m - suc row) * q) node)
       → (s : ℕ) → s < 2 ^ q → Beyond q base entries own (childOf m q numbers row node partial s) s
   all-beyond near-re near-im base is-re is-im low over-re over-im node is s h =
-      rw
-      (child-parts (asked .vector) row (asked .inside) node (complexOf re im) is (asked .tabled) (asked .low-re) (asked .low-im) partial s h)
-      (parts-beyond q partial (tablePart tables (axisPlace row real) re) (tablePart tables (axisPlace row imaginary) im) (near-re * near-re)
+      beyond-more q base entries own _ _ s
+      (parts-beyond q partial (axisDistance re (pos diagonal) (q - q / 2)) (axisDistance im (pos diagonal) (q / 2)) (near-re * near-re)
       (near-im * near-im) base entries own
-      (rw is-re (part-near (asked .vector) row (asked .inside) (asked .tabled) real re (asked .low-re)))
-      (rw is-im (part-near (asked .vector) row (asked .inside) (asked .tabled) imaginary im (asked .low-im))) (omega arith) over-re over-im s h)
+      (λ a _. rw is-re (distance-near re (pos diagonal) (q - q / 2) a))
+      (λ b _. rw is-im (distance-near im (pos diagonal) (q / 2) b)) (omega arith) over-re over-im s h)
+      (rw stands (child-distances (asked .vector) row (asked .inside) node (complexOf re im) is partial s))

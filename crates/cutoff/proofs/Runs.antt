@@ -1,13 +1,17 @@
--- A run of labels grown by one, the least of its parts, and the place of a label's entry.
-use Prim.Native.Nat.{ℕ, _+_, _*_, _≤_, _<_}
+-- An axis's labels: a run of them grown by one, the least of its parts, and the places of a label's entries.
+use Prim.Native.Nat.{ℕ, _+_, _*_, _%_, _^_, _≤_, _<_}
 use mathlib.Core.Path.{_≡_}
 use mathlib.Core.List.{List}
 use mathlib.Core.Logic.{⊎-elim}
 use native.Mathlib.Nat.{eq-or-lt-of-le}
 use native.Mathlib.Omega.{arith}
 use lib.Bits.{bitXor, xor-lt}
+use lib.IntN.{ℤ}
+use lib.Pow.{pow-pos, pow-mono}
 use Rattle.metric.specs.Parts.{axisWidth, span}
-use Rattle.cutoff.specs.Axes.{partIn, LeastOf}
+use Rattle.metric.specs.Tables.{AxisAsked}
+use Rattle.metric.proofs.Shifts.{one-shifted}
+use Rattle.cutoff.specs.Axes.{LabelAsked, LeastOf}
 
 -- What the first g labels and label g have, the first g + 1 have
 pub one-more : (P : ℕ → Type 0) (g : ℕ) → ((i : ℕ) → i < g → P i) → P g → (i : ℕ) → i < g + 1 → P i
@@ -16,11 +20,24 @@ one-more P g first last i h =
     ⊎-elim (λ (e : i ≡ g). rw e last) (λ (lt : i < g). first i lt) (eq-or-lt-of-le k)
 
 -- The least of one part more: at most the least before, and at most the new part
-pub least-more : {axes : List ℕ} {from g least : ℕ} → LeastOf axes from g least → (new : ℕ) → new ≤ least → new ≤ partIn axes from g
-    → LeastOf axes from (g + 1) new
-least-more {axes} {from} {g} was new le last = record {
+pub least-more : {part : ℕ → ℕ} {g least : ℕ} → LeastOf part g least → (new : ℕ) → new ≤ least → new ≤ part g → LeastOf part (g + 1) new
+least-more {part} {g} was new le last = record {
   low = omega (arith, was .low);
-  least-le = one-more (λ (i : ℕ). new ≤ partIn axes from i) g (λ i h. omega (arith, was .least-le i h)) last;
+  least-le = one-more (λ (i : ℕ). new ≤ part i) g (λ i h. omega (arith, was .least-le i h)) last;
+}
+
+-- The number of an axis's labels, as it is made by a shift: there are some, and not more than its entries
+pub labels-few : (w : ℕ) → w ≤ axisWidth → (1 * 2 ^ w % 2 ^ 64 ≡ 2 ^ w) × (1 ≤ 2 ^ w) × (2 ^ w ≤ span)
+labels-few w h = (one-shifted w (omega arith), pow-pos w, pow-mono h)
+
+-- What making a label's part asks is part of what measuring its axis asks
+pub label-asked : {tables : List ℤ} {at : ℕ} {left : ℤ} {w : ℕ} → AxisAsked tables at left w → (g : ℕ) → g < 2 ^ w
+    → LabelAsked tables at left g
+label-asked {w = w} asked g h = record {
+  room = omega (arith, asked .room, labels-few w (asked .bits));
+  remains = asked .remains;
+  product = asked .product g h;
+  cost = asked .cost g h;
 }
 
 -- The bits in which two labels differ are a label, whose entry is within its axis

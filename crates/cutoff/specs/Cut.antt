@@ -7,9 +7,11 @@ use lib.Bits.{bitXor}
 use lib.IntN.{ℤ, natAbs}
 use lib.ListN.{length, getD}
 use Rattle.model.specs.Block.{mostWidth}
-use Rattle.metric.specs.Parts.{span, AllSmall}
+use Rattle.metric.specs.Parts.{span}
 use Rattle.metric.specs.Rows.{VectorAsked}
-use Rattle.metric.specs.Tables.{Tabled}
+use Rattle.metric.specs.Tables.{axisPlace}
+use Rattle.metric.specs.Tables.Axis.{real, imaginary}
+use Rattle.cutoff.specs.Axes.{WidestLast, ByBits, LeastAsked}
 
 -- A stream's entries: for each real label, then a span later for each imaginary one, the widest limit of the bits that are 1 in it. Of a
 -- symbol's bits that are 1 this is the widest
@@ -22,19 +24,16 @@ pub record Beyond (q base : ℕ) (entries : List ℕ) (own d s : ℕ) : Type 0 w
   pub above-base : base ≤ d
   pub above-own : symbolReach q entries (bitXor s own) ≤ d
 
--- Of the entries of an axis of w bits, which stand from a place on, the last, that of the label whose bits are all 1, is the widest
-abbrev pub WidestLast : List ℕ → ℕ → ℕ → Type 0
-WidestLast entries from w = (g : ℕ) → g < 2 ^ w → getD entries (from + g) 0 ≤ getD entries (from + (2 ^ w - 1)) 0
-
--- and so it is on both axes
+-- The entries of both axes are so: the widest is the last, and none is wider than its bits
 pub record Widest (q : ℕ) (entries : List ℕ) : Type 0 where
   pub real : WidestLast entries 0 (q - q / 2)
   pub imaginary : WidestLast entries span (q / 2)
+  pub real-bits : ByBits entries 0 (q - q / 2)
+  pub imaginary-bits : ByBits entries span (q / 2)
 
 -- What the test by distances asks: `re` and `im` are what remains of y in the row
-pub record OpensAsked (m q row : ℕ) (re im : ℤ) (partial : ℕ) (numbers tables : List ℤ) (entries : List ℕ) (own : ℕ) : Type 0 where
+pub record OpensAsked (m q row : ℕ) (re im : ℤ) (partial : ℕ) (numbers : List ℤ) (entries : List ℕ) (own : ℕ) : Type 0 where
   pub vector : VectorAsked m q numbers
-  pub tabled : Tabled m q numbers tables
   pub inside : row < m
   pub low-re : natAbs re < 2 ^ 30
   pub low-im : natAbs im < 2 ^ 30
@@ -43,12 +42,12 @@ pub record OpensAsked (m q row : ℕ) (re im : ℤ) (partial : ℕ) (numbers tab
   pub widest : Widest q entries
   pub symbol : own < 2 ^ q
 
--- What the test by the parts asks, which stand in `axes`
-pub record ShutAsked (q partial : ℕ) (axes entries : List ℕ) (own : ℕ) : Type 0 where
+-- What the test by the parts asks, which are made by the tables
+pub record TableAsked (q row : ℕ) (re im : ℤ) (partial : ℕ) (tables : List ℤ) (entries : List ℕ) (own : ℕ) : Type 0 where
   pub bits : q ≤ mostWidth
+  pub first : LeastAsked tables (axisPlace row real) re (q - q / 2)
+  pub second : LeastAsked tables (axisPlace row imaginary) im (q / 2)
   pub low : partial < 2 ^ 61
-  pub both : length axes ≡ 2 * span
-  pub small : AllSmall axes
   pub stream : length entries ≡ 2 * span
   pub widest : Widest q entries
   pub symbol : own < 2 ^ q

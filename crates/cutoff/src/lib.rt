@@ -1,19 +1,22 @@
-// Would every child of a node be cut? Decided from what remains of y, before a part of an axis is stored (`opens`), and from the stored parts,
-// before a child's key is filled in (`shuts`).
+// Would every child of a node be cut? Decided from what remains of y, before a part of an axis is stored: by the distances alone (`opens`),
+// and, where there are priors, by the parts with their costs (`opens_by_parts`).
 use metric::AXES;
 use metric::Complex;
 use metric::Shape;
 use metric::TABLE;
 ghost use mathlib.Core.Path.{_≡_};
-ghost use mathlib.Core.Bool.{true, false};
-ghost use Prim.Native.Nat.{ℕ, suc, _*_, _-_, _<_, _^_};
+ghost use mathlib.Core.Bool.{true, false, cond, Bool·beq};
+ghost use Prim.Native.Nat.{ℕ, suc, _+_, _*_, _-_, _<_, _≤_, _^_};
+ghost use lib.IntN.{pos};
+ghost use Rattle.model.specs.Block.{mostStreams, mostWidth};
 ghost use Rattle.model.specs.Constellation.{bitsOf};
 ghost use Rattle.constellation.specs.Points.{complexOf};
-ghost use Rattle.metric.specs.Parts.{childMetric, realIn, imaginaryIn};
+ghost use Rattle.metric.specs.Parts.{axisWidth, span, axisDistance, childMetric};
 ghost use Rattle.metric.specs.Rows.{rowAt, remainderOf, childOf};
-ghost use Rattle.metric.specs.Tables.{tablePart};
-ghost use Rattle.cutoff.specs.Cut.{Beyond, OpensAsked, ShutAsked};
-ghost use Rattle.cutoff.specs.Axes.{NoneOver, PartAsked, partIn, LeastAsked, LeastOf, AnyAsked};
+ghost use Rattle.metric.specs.Tables.{tableSize, axisPlace, tablePart};
+ghost use Rattle.metric.specs.Tables.Axis.{real, imaginary};
+ghost use Rattle.cutoff.specs.Cut.{Beyond, OpensAsked, TableAsked};
+ghost use Rattle.cutoff.specs.Axes.{NoneOver, BitAsked, LabelAsked, PartAsked, LeastAsked, LeastOf, axisPriced, pricedBy};
 
 // How many labels the widest axis has: the place of the imaginary axis's parts, and of its entries.
 const SPAN: usize = AXES / 2;
@@ -25,6 +28,133 @@ pub struct Bounds {
     pub free: u64,
     pub chosen: u64,
     pub cap: u64,
+}
+
+// The least that a label can come to whose bit is opposite to `bit`, where the axis is folded: what remains there is below 0 on the side of the
+// bit 0. On the near side that is `low`, what the nearest label of all comes to, and on the other side `beyond`.
+fn least_opposite(negative: bool, bit: bool, low: u64, beyond: u64) -> u64
+    ensures { λ r. ⌜ r ≡ cond (Bool·beq negative bit) low beyond ⌝ }
+{
+    if negative == bit { low } else { beyond }
+}
+
+// Is a label of an axis of w bits, with `other` added to its squared distance, below the limit of a bit in which it differs from `own`? The
+// nearest label with a bit opposite to own's is the nearest of all, which comes to `low`, or else the first beyond the fold of that bit.
+fn any_bit(
+    left: i64,
+    diagonal: u64,
+    w: usize,
+    other: u64,
+    low: u64,
+    entries: &[u64],
+    from: usize,
+    own: usize,
+) -> bool
+    requires { ⌜ BitAsked left diagonal w other low (now entries) from own ⌝ }
+    ensures { λ r. ⌜ (r ≡ false → NoneOver (now (entries .entry)) from (2 ^ w) (axisDistance left (pos diagonal) w) other own) ⌝ }
+{
+    if low < entries[from] {
+        return true;
+    }
+    let mut x = left;
+    let mut i = 0;
+    while i < w {
+        let bit = metric::bit_at(w, own as u32, i);
+        let k = w - 1 - i;
+        let size = integers::magnitude(x);
+        let far = size + diagonal;
+        let reached = least_opposite(x < 0, bit, low, other + far * far);
+        if reached < entries[from + (1 << k)] {
+            return true;
+        }
+        x = (diagonal << k) as i64 - size as i64;
+        i += 1;
+    }
+    false
+}
+
+// The same; an axis of 64-QAM has three bits, one of 16-QAM two and one of 256-QAM four, which the compiler is told here.
+fn any_bit_of(
+    left: i64,
+    diagonal: u64,
+    w: usize,
+    other: u64,
+    low: u64,
+    entries: &[u64],
+    from: usize,
+    own: usize,
+) -> bool
+    requires { ⌜ BitAsked left diagonal w other low (now entries) from own ⌝ }
+    ensures { λ r. ⌜ (r ≡ false → NoneOver (now (entries .entry)) from (2 ^ w) (axisDistance left (pos diagonal) w) other own) ⌝ }
+{
+    if w == 3 {
+        return any_bit(left, diagonal, 3, other, low, entries, from, own);
+    }
+    if w == 2 {
+        return any_bit(left, diagonal, 2, other, low, entries, from, own);
+    }
+    if w == 4 {
+        return any_bit(left, diagonal, 4, other, low, entries, from, own);
+    }
+    any_bit(left, diagonal, w, other, low, entries, from, own)
+}
+
+// May a child of a node pass, by the distances alone? Where this is false every child would be cut: its partial metric is not below `base`,
+// what is held against all siblings, nor below a limit of its own bits that differ from `own`, the best label's symbol there. `left` is what
+// remains of y in the row, and `entries` are the limits of its stream. No child is below the parent's partial metric with the squared distance
+// to the nearest amplitude of either axis, nor below a label's squared distance with the nearest on the other axis. The former, `low`, is
+// above none of the latter, and no entry of an axis is wider than that of the label whose bits are all 1: where that is not above `low` no bit
+// of the axis has to be looked at.
+pub fn opens(
+    shape: Shape,
+    row: usize,
+    left: Complex,
+    partial: u64,
+    base: u64,
+    numbers: &[i32],
+    entries: &[u64],
+    own: usize,
+) -> bool
+    requires { ⌜ OpensAsked (shape .streams) (shape .width) row (left .re) (left .im) partial (now numbers) (now entries) own ⌝ }
+    ensures { λ r. ⌜ (r ≡ false → (node : ℕ) → complexOf (left .re) (left .im)
+        ≡ remainderOf (shape .width) (rowAt (shape .streams) (shape .width) (now (numbers .entry)) row)
+        (bitsOf ((shape .streams - suc row) * shape .width) node)
+        → (s : ℕ) → s < 2 ^ shape .width
+        → Beyond (shape .width) base (now (entries .entry)) own
+        (childOf (shape .streams) (shape .width) (now (numbers .entry)) row node partial s) s) ⌝ }
+{
+    let q = shape.width;
+    let w = q - q / 2;
+    let v = q / 2;
+    let diagonal = metric::element(numbers, row * (2 * shape.streams - row)) as u64;
+    let re = metric::nearest(left.re, diagonal, w);
+    let im = metric::nearest(left.im, diagonal, v);
+    let near_re = re * re;
+    let near_im = im * im;
+    let sum_re = partial + near_re;
+    let sum_im = partial + near_im;
+    let low = sum_re + near_im;
+    if low < base {
+        return true;
+    }
+    let ones = (1 << v) - 1;
+    if low < entries[(1 << w) - 1] {
+        if any_bit_of(left.re, diagonal, w, sum_im, low, entries, 0, own >> v) {
+            return true;
+        }
+    }
+    if entries[SPAN + ones] <= low {
+        return false;
+    }
+    any_bit_of(left.im, diagonal, v, sum_re, low, entries, SPAN, own & ones)
+}
+
+// The part of label g of an axis, made by the table.
+fn part_at(tables: &[i32; TABLE], at: usize, left: i64, g: usize) -> u64
+    requires { ⌜ LabelAsked (now tables) at left g ⌝ }
+    ensures { λ r. ⌜ r ≡ tablePart (now (tables .entry)) at left g ⌝ }
+{
+    metric::axis_part(left, tables[at + g], tables[at + SPAN + g])
 }
 
 // Is one of the labels of an axis of w bits, with `other` added to its part, below the widest limit of the bits in which it differs from
@@ -45,7 +175,7 @@ fn any_part(
     let n: usize = 1 << w;
     let mut g = 0;
     while g < n {
-        let part = metric::axis_part(left, tables[at + g], tables[at + SPAN + g]);
+        let part = part_at(tables, at, left, g);
         if other + part < entries[from + (g ^ own)] {
             return true;
         }
@@ -80,69 +210,16 @@ fn any_part_of(
     any_part(tables, at, left, w, other, entries, from, own)
 }
 
-// May a child of a node pass? Where this is false every child would be cut: its partial metric is not below `base`, what is held against
-// all siblings, nor below a limit of its own bits that differ from `own`, the best label's symbol there. `left` is what remains of y in the
-// row, and `entries` are the limits of its stream. No child is below the parent's partial metric with the squared distance to the nearest
-// amplitude of either axis, nor below a label's part with that distance on the other axis. The former, `low`, is above none of the latter, and
-// no entry of an axis is wider than that of the label whose bits are all 1: where that is not above `low` no part of the axis has to be made.
-pub fn opens(
-    shape: Shape,
-    row: usize,
-    left: Complex,
-    partial: u64,
-    base: u64,
-    numbers: &[i32],
-    tables: &[i32; TABLE],
-    entries: &[u64],
-    own: usize,
-) -> bool
-    requires { ⌜ OpensAsked (shape .streams) (shape .width) row (left .re) (left .im) partial (now numbers) (now tables) (now entries)
-        own ⌝ }
-    ensures { λ r. ⌜ (r ≡ false → (node : ℕ) → complexOf (left .re) (left .im)
-        ≡ remainderOf (shape .width) (rowAt (shape .streams) (shape .width) (now (numbers .entry)) row)
-        (bitsOf ((shape .streams - suc row) * shape .width) node)
-        → (s : ℕ) → s < 2 ^ shape .width
-        → Beyond (shape .width) base (now (entries .entry)) own
-        (childOf (shape .streams) (shape .width) (now (numbers .entry)) row node partial s) s) ⌝ }
+// The least part of an axis of w bits. The parts are made as they are asked for.
+fn least_among(tables: &[i32; TABLE], at: usize, left: i64, w: usize) -> u64
+    requires { ⌜ LeastAsked (now tables) at left w ⌝ }
+    ensures { λ r. ⌜ LeastOf (tablePart (now (tables .entry)) at left) (2 ^ w) r ⌝ }
 {
-    let q = shape.width;
-    let w = q - q / 2;
-    let v = q / 2;
-    let diagonal = metric::element(numbers, row * (2 * shape.streams - row)) as u64;
-    let re = metric::nearest(left.re, diagonal, w);
-    let im = metric::nearest(left.im, diagonal, v);
-    let near_re = re * re;
-    let near_im = im * im;
-    let sum_re = partial + near_re;
-    let sum_im = partial + near_im;
-    let low = sum_re + near_im;
-    if low < base {
-        return true;
-    }
-    let at = row * (4 * SPAN);
-    let ones = (1 << v) - 1;
-    let own_re = own >> v;
-    if low < entries[(1 << w) - 1] {
-        if any_part_of(tables, at, left.re, w, sum_im, entries, 0, own_re) {
-            return true;
-        }
-    }
-    if entries[SPAN + ones] <= low {
-        return false;
-    }
-    let next = at + 2 * SPAN;
-    any_part_of(tables, next, left.im, v, sum_re, entries, SPAN, own & ones)
-}
-
-// The least of n parts from a place on.
-fn least_among(axes: &[u64; AXES], from: usize, n: usize) -> u64
-    requires { ⌜ LeastAsked (now axes) from n ⌝ }
-    ensures { λ r. ⌜ LeastOf (now (axes .entry)) from n r ⌝ }
-{
-    let mut least = axes[from];
+    let n: usize = 1 << w;
+    let mut least = part_at(tables, at, left, 0);
     let mut g = 1;
     while g < n {
-        let part = axes[from + g];
+        let part = part_at(tables, at, left, g);
         if part < least {
             least = part;
         }
@@ -151,98 +228,89 @@ fn least_among(axes: &[u64; AXES], from: usize, n: usize) -> u64
     least
 }
 
-// The same; an axis of 64-QAM has eight labels and one of 16-QAM four, which the compiler is told here.
-fn least_part(axes: &[u64; AXES], from: usize, n: usize) -> u64
-    requires { ⌜ LeastAsked (now axes) from n ⌝ }
-    ensures { λ r. ⌜ LeastOf (now (axes .entry)) from n r ⌝ }
+// The same; the compiler is told of three bits and of two here too.
+fn least_part(tables: &[i32; TABLE], at: usize, left: i64, w: usize) -> u64
+    requires { ⌜ LeastAsked (now tables) at left w ⌝ }
+    ensures { λ r. ⌜ LeastOf (tablePart (now (tables .entry)) at left) (2 ^ w) r ⌝ }
 {
-    if n == 8 {
-        return least_among(axes, from, 8);
+    if w == 3 {
+        return least_among(tables, at, left, 3);
     }
-    if n == 4 {
-        return least_among(axes, from, 4);
+    if w == 2 {
+        return least_among(tables, at, left, 2);
     }
-    least_among(axes, from, n)
+    least_among(tables, at, left, w)
 }
 
-// Is one of n parts from a place on, with `other` added to it, below the widest limit of the bits in which its label differs from `own`?
-fn any_among(
-    entries: &[u64],
-    axes: &[u64; AXES],
-    from: usize,
-    n: usize,
-    other: u64,
-    own: usize,
-) -> bool
-    requires { ⌜ AnyAsked (now entries) (now axes) from n other own ⌝ }
-    ensures { λ r. ⌜ (r ≡ false → NoneOver (now (entries .entry)) from n (partIn (now (axes .entry)) from) other own) ⌝ }
+// Has the label of an axis whose bits are all 0, or that whose bits are all 1, a prior cost, by the table? Where neither has one no bit of
+// the axis has a prior.
+fn axis_priced(tables: &[i32; TABLE], at: usize, w: usize) -> bool
+    requires { ⌜ (w ≤ axisWidth) × (at + 2 * span ≤ tableSize) ⌝ }
+    ensures { λ r. ⌜ r ≡ axisPriced (now (tables .entry)) at w ⌝ }
 {
-    let mut g = 0;
-    while g < n {
-        if other + axes[from + g] < entries[from + (g ^ own)] {
-            return true;
-        }
-        g += 1;
-    }
-    false
+    let ones = (1 << w) - 1;
+    let costs = at + SPAN;
+    tables[costs] != 0 || tables[costs + ones] != 0
 }
 
-// The same; the compiler is told of eight labels and of four here too.
-fn any_below(
-    entries: &[u64],
-    axes: &[u64; AXES],
-    from: usize,
-    n: usize,
-    other: u64,
-    own: usize,
-) -> bool
-    requires { ⌜ AnyAsked (now entries) (now axes) from n other own ⌝ }
-    ensures { λ r. ⌜ (r ≡ false → NoneOver (now (entries .entry)) from n (partIn (now (axes .entry)) from) other own) ⌝ }
+// Has a symbol of a row's stream any prior cost? Whether the next question is worth asking is all that depends on it.
+pub fn priced(q: usize, row: usize, tables: &[i32; TABLE]) -> bool
+    requires { ⌜ (q ≤ mostWidth) × (row < mostStreams) ⌝ }
+    ensures { λ r. ⌜ r ≡ pricedBy q (now (tables .entry)) row ⌝ }
 {
-    if n == 8 {
-        return any_among(entries, axes, from, 8, other, own);
-    }
-    if n == 4 {
-        return any_among(entries, axes, from, 4, other, own);
-    }
-    any_among(entries, axes, from, n, other, own)
+    let at = row * (4 * SPAN);
+    axis_priced(tables, at, q - q / 2) || axis_priced(tables, at + 2 * SPAN, q / 2)
 }
 
-// Would every child of a node be cut? Where this is true all would. `axes` has the parts of their labels, prior costs and all; `base` is what
-// all siblings are held against, `entries` are the limits of their stream and `own` is the best label's symbol there. `opens` asks the same
-// before the parts are made, by the distances alone, so where there are priors it lets more nodes through. No child is below the parent's
-// partial metric with the least part of either axis, nor below a label's part with the least of the other axis. The former, `least`, is above
-// none of the latter: where the widest entry of an axis, its last, is not above `least` no part of the axis has to be held against its entry.
-pub fn shuts(
+// The question of `opens`, with prior costs and all: where there are priors it lets fewer nodes through. No child is below the parent's
+// partial metric with the least part of either axis, nor below a label's part with the least of the other axis. The former, `least`, is
+// above none of the latter: where the widest entry of an axis, its last, is not above `least` no part of the axis has to be held against
+// its entry.
+pub fn opens_by_parts(
     q: usize,
+    row: usize,
+    left: Complex,
     partial: u64,
     base: u64,
-    axes: &[u64; AXES],
+    tables: &[i32; TABLE],
     entries: &[u64],
     own: usize,
 ) -> bool
-    requires { ⌜ ShutAsked q partial (now axes) (now entries) own ⌝ }
-    ensures { λ r. ⌜ (r ≡ true → (s : ℕ) → s < 2 ^ q
+    requires { ⌜ TableAsked q row (left .re) (left .im) partial (now tables) (now entries) own ⌝ }
+    ensures { λ r. ⌜ (r ≡ false → (s : ℕ) → s < 2 ^ q
         → Beyond q base (now (entries .entry)) own
-        (childMetric q partial (realIn (now (axes .entry))) (imaginaryIn (now (axes .entry))) s) s) ⌝ }
+        (childMetric q partial (tablePart (now (tables .entry)) (axisPlace row real) (left .re))
+        (tablePart (now (tables .entry)) (axisPlace row imaginary) (left .im)) s) s) ⌝ }
 {
     let v = q / 2;
-    let rows: usize = 1 << (q - v);
-    let columns: usize = 1 << v;
-    let re = least_part(axes, 0, rows);
-    let im = least_part(axes, SPAN, columns);
+    let w = q - v;
+    let at = row * (4 * SPAN);
+    let next = at + 2 * SPAN;
+    let ones = (1 << v) - 1;
+    let own_re = own >> v;
+    let own_im = own & ones;
+    let re = least_part(tables, at, left.re, w);
+    let im = least_part(tables, next, left.im, v);
     let least = partial + (re + im);
     if least < base {
-        return false;
-    }
-    if least < entries[rows - 1] {
-        if any_below(entries, axes, 0, rows, partial + im, own >> v) {
-            return false;
-        }
-    }
-    let ones = columns - 1;
-    if entries[SPAN + ones] <= least {
         return true;
     }
-    !any_below(entries, axes, SPAN, columns, partial + re, own & ones)
+    if least < entries[(1 << w) - 1] {
+        if any_part_of(tables, at, left.re, w, partial + im, entries, 0, own_re) {
+            return true;
+        }
+    }
+    if entries[SPAN + ones] <= least {
+        return false;
+    }
+    any_part_of(
+        tables,
+        next,
+        left.im,
+        v,
+        partial + re,
+        entries,
+        SPAN,
+        own_im,
+    )
 }

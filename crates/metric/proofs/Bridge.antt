@@ -12,7 +12,7 @@ use Rattle.model.specs.Constellation.{Complex, bitsOf, amplitude}
 use Rattle.model.specs.Block.{Every, Within, mostWidth, mostEntry, mostPrior}
 use Rattle.model.proofs.Numbers.{first-half, length-bitsOf}
 use Rattle.model.proofs.Bounds.{prior-cost-bound}
-use Rattle.metric.specs.Parts.{axisWidth, span, part, axisPart, realIn, imaginaryIn, childMetric, filledFrom, AllSmall}
+use Rattle.metric.specs.Parts.{axisWidth, span, part, axisDistance, axisPart, realIn, imaginaryIn, childMetric, filledFrom, AllSmall}
 use Rattle.metric.specs.Parts.{nearestOf}
 use Rattle.metric.specs.Rows.{rowStart, rowAt, childOf, VectorAsked, Measured}
 use Rattle.metric.specs.Tables.{Axis, axisPlace, axisBits, axisPrior, labelProduct, labelCost, Tabled, tablePart, AxisAsked}
@@ -52,15 +52,14 @@ axis-small left diagonal priors w g h k few all =
           natAbs-mul-le diagonal (amplitude (bitsOf w g)) k (le-of-lt (amplitude-few w g few)),
         )
 
--- and at least the square of the nearest distance
-axis-near : (left diagonal : ℤ) (priors : List ℤ) (w g : ℕ)
+-- No squared distance is below the square of the nearest, and so no part
+pub distance-near : (left diagonal : ℤ) (w g : ℕ)
     → let n = nearestOf (natAbs diagonal) w (natAbs left) in
-    n * n ≤ axisPart left diagonal priors w g
-unfolding axisPart
-axis-near left diagonal priors w g =
+    n * n ≤ axisDistance left diagonal w g
+distance-near left diagonal w g =
     let h = subst (λ (n : ℕ). nearestOf (natAbs diagonal) n (natAbs left) ≤ natAbs (left -ℤ diagonal *ℤ amplitude (bitsOf w g)))
     (length-bitsOf w g) (nearest-le left diagonal (bitsOf w g)) in
-    omega (arith, mul-le-mul h h)
+    mul-le-mul h h
 
 -- The two halves of a symbol's label are labels of the two axes
 to-room : (q : ℕ) (x : Axis) → q ≤ mostWidth → axisTo x + 2 ^ axisBits q x ≤ 2 * span
@@ -105,12 +104,6 @@ module _ {m q : ℕ} {numbers : List ℤ} (asked : VectorAsked m q numbers) (lev
         rw (part-by g h)
         (axis-small left _ _ (axisBits q x) g low (diagonal-within asked level inside) few (axis-priors asked level inside x))
 
-    -- and at least the square of the nearest distance
-    pub part-near : (g : ℕ) → g < 2 ^ axisBits q x
-        → let n = nearestOf (natAbs (getD numbers (rowStart m level) (pos 0))) (axisBits q x) (natAbs left) in
-        n * n ≤ tablePart tables (axisPlace level x) left g
-    part-near g h = rw (part-by g h) (axis-near left _ _ (axisBits q x) g)
-
     -- What filling an axis in makes of the array: its entries are small, and the axis's places hold its parts
     module _ (axes : List ℕ) (size : length axes ≡ 2 * span) where
       in-small : AllSmall axes → AllSmall (axisIn q tables level x left axes)
@@ -152,6 +145,13 @@ module _ {m q : ℕ} {numbers : List ℤ} (asked : VectorAsked m q numbers) (lev
         split =
             let e : q ≡ w + q / 2 = omega arith in
             ap (part numbers (axisPrior m q level real)) e ∙ part-append numbers (axisPrior m q level real) w (q / 2)
+
+    -- It is at least what the squared distances alone come to
+    pub child-distances : (d s : ℕ)
+        → let r = pos (natAbs (getD numbers (rowStart m level) (pos 0))) in
+        childMetric q d (axisDistance (left .re) r (q - q / 2)) (axisDistance (left .im) r (q / 2)) s ≤ childOf m q numbers level node d s
+    unfolding childMetric axisPart
+    child-distances d s = rw (← child-by d s, ← asked .plain level inside) (omega arith)
 
     module _ {tables : List ℤ} (tabled : Tabled m q numbers tables)
         (low-re : natAbs (left .re) < 2 ^ 30) (low-im : natAbs (left .im) < 2 ^ 30) where

@@ -1,12 +1,12 @@
 -- What the pass test reads off the array: the limits of a node's bits that are opposite to the best label's.
 use Prim.Native.Nat.{ℕ, zero, suc, _+_, _-_, _*_, _/_, _%_, _^_, _≤_, _<_, max}
 use mathlib.Core.Path.{_≡_, refl, sym, _∙_, ap, ap₂}
-use mathlib.Core.Bool.{Bool, true, false, cond, not, Bool·beq}
+use mathlib.Core.Bool.{Bool, true, false, cond}
 use mathlib.Core.List.{List}
-use native.Mathlib.Nat.{mod-lt, suc-mul, add-mul, mul-le-mul, zero-mul, zero-div, le-refl, mod-eq-of-lt}
+use native.Mathlib.Nat.{mod-lt, suc-mul, add-mul, mul-le-mul, zero-mul, zero-div, le-refl, mod-eq-of-lt, pow-suc}
 use native.Mathlib.Omega.{arith}
 use lib.Dec.{eqb}
-use lib.ListN.{getD, take, drop}
+use lib.ListN.{getD, drop}
 use lib.Seq.{getD-take, getD-drop}
 use lib.Bits.{bitXor, xor-shr, xor-mod}
 use lib.Pow.{pow-pos, pow-mono, ones-lt, ones-split, high, low, field, mod-mod-pow}
@@ -15,30 +15,14 @@ use Rattle.metric.specs.Parts.{span, bitOf}
 use Rattle.metric.specs.Tables.{Axis, axisBits}
 use Rattle.metric.specs.Tables.Axis.{real, imaginary}
 use Rattle.metric.proofs.Tables.{axis-few}
-use Rattle.cutoff.specs.Cut.{WidestLast, Widest}
+use Rattle.cutoff.specs.Axes.{WidestLast, ByBits}
+use Rattle.cutoff.specs.Cut.{Widest}
 use Rattle.pruning.specs.Reach.{widestOf}
-use Rattle.pruning.proofs.Reach.{widest-split, widest-same, symbol-bit}
+use Rattle.pruning.proofs.Reach.{widest-ge, widest-split, widest-same, symbol-bit}
 use Rattle.reach.specs.Reach.{limitIn, firstPlace, axisEntries, entryPlace, axisStart, axisReach, streamReach, symbolOf, chosenReach}
 use Rattle.reach.specs.Reach.{StandsFor, Reaches, entriesOf}
 use Rattle.reach.proofs.Axes.{axis-same, all-ones}
 use Rattle.reach.proofs.Streams.{stream-is}
-
--- A bit of an exclusive or says that two bits are opposite
-digits-opposite : (x y : ℕ) → x < 2 → y < 2 → eqb (bitXor x y) 1 ≡ not (Bool·beq (eqb x 1) (eqb y 1))
-digits-opposite zero zero h k = refl
-digits-opposite zero (suc zero) h k = refl
-digits-opposite (suc zero) zero h k = refl
-digits-opposite (suc zero) (suc zero) h k = refl
-digits-opposite (suc (suc x)) y h k = absurd (omega arith)
-digits-opposite zero (suc (suc y)) h k = absurd (omega arith)
-digits-opposite (suc zero) (suc (suc y)) h k = absurd (omega arith)
-
-pub xor-opposite : (n a b i : ℕ) → bitOf n (bitXor a b) i ≡ not (Bool·beq (bitOf n a i) (bitOf n b i))
-unfolding bitOf
-xor-opposite n a b i =
-    let e = n - suc i in
-    ap (λ (y : ℕ). eqb y 1) (ap (λ (y : ℕ). y % 2) (xor-shr a b e) ∙ xor-mod (a / 2 ^ e) (b / 2 ^ e) 1)
-    ∙ digits-opposite (a / 2 ^ e % 2) (b / 2 ^ e % 2) (mod-lt (a / 2 ^ e) (pow-pos 1)) (mod-lt (b / 2 ^ e) (pow-pos 1))
 
 -- The limits of all bits are at least as wide as those of some
 widest-all : (pick : ℕ → Bool) (limit : ℕ → ℕ) (a n : ℕ) → widestOf pick limit a n ≤ widestOf (λ _. true) limit a n
@@ -50,6 +34,33 @@ widest-all pick limit a (suc n) = go (pick a) (widest-all pick limit (suc a) n)
         → max (cond b (limit a) 0) (widestOf pick limit (suc a) n) ≤ max (limit a) (widestOf (λ _. true) limit (suc a) n)
     go true h = omega arith
     go false h = omega arith
+
+-- A bound that no picked limit is above is not below the widest
+widest-le : (pick : ℕ → Bool) (limit : ℕ → ℕ) (bound a n : ℕ)
+    → ((i : ℕ) → a ≤ i → i < a + n → pick i ≡ true → limit i ≤ bound) → widestOf pick limit a n ≤ bound
+unfolding widestOf
+widest-le pick limit bound a zero h = omega arith
+widest-le pick limit bound a (suc n) h =
+    go (pick a) refl (widest-le pick limit bound (suc a) n (λ i k l. h i (omega arith) (omega arith)))
+  where
+    go : (b : Bool) → pick a ≡ b → widestOf pick limit (suc a) n ≤ bound
+        → max (cond b (limit a) 0) (widestOf pick limit (suc a) n) ≤ bound
+    go true e later = omega (arith, h a (omega arith) (omega arith) e)
+    go false e later = omega arith
+
+-- The label of w bits of which bit i alone is 1 is one of the labels
+single-few : (w i : ℕ) → i < w → 2 ^ (w - suc i) < 2 ^ w
+single-few w i h =
+    let up : suc (w - suc i) ≤ w = omega arith in
+    omega (arith, pow-suc 2 (w - suc i), pow-mono up, pow-pos (w - suc i))
+
+-- and that bit is 1 in it
+single-bit : (w i : ℕ) → bitOf w (2 ^ (w - suc i)) i ≡ true
+unfolding bitOf
+single-bit w i =
+    let e = w - suc i in
+    let d : 2 ^ e ≡ 1 * 2 ^ e + 0 = omega arith in
+    ap (λ (y : ℕ). eqb (y % 2) 1) (ap (λ (y : ℕ). y / 2 ^ e) d ∙ high 1 e (pow-pos e))
 
 -- No symbol of a stream reaches further than the streams up to it
 pub stream-wider : {q : ℕ} {limit : ℕ → ℕ} {limits : List ℕ} {k : ℕ} → Reaches q limit limits k
@@ -68,8 +79,9 @@ stream-wider {q} {limit} {limits} made j s h l =
       made .first (suc j) h,
     )
 
--- A stream's entries by themselves: on either axis that of the label whose bits are all 1 is the widest
+-- A stream's entries
 module _ {q : ℕ} {limit : ℕ → ℕ} {limits : List ℕ} {k : ℕ} (made : Reaches q limit limits k) (j : ℕ) (inside : j < k) where
+  -- On either axis that of the label whose bits are all 1 is the widest
   axis-widest : (x : Axis) (g : ℕ) → g < 2 ^ axisBits q x
       → getD limits (entryPlace j x + g) 0 ≤ getD limits (entryPlace j x + (2 ^ axisBits q x - 1)) 0
   unfolding axisReach
@@ -84,22 +96,58 @@ module _ {q : ℕ} {limit : ℕ → ℕ} {limits : List ℕ} {k : ℕ} (made : R
         widest-all (λ i. bitOf w g (i - at)) limit at w,
       )
 
-  entries-at : (x : Axis) (from : ℕ) → entryPlace j x ≡ entryPlace j real + from → from + 2 ^ axisBits q x ≤ 2 * span
-      → WidestLast (entriesOf limits j) from (axisBits q x)
-  entries-at x from e room g h = omega (arith, place g h, place (2 ^ axisBits q x - 1) (ones-lt (axisBits q x)), axis-widest x g h)
-    where
-      place : (i : ℕ) → i < 2 ^ axisBits q x
-          → getD (entriesOf limits j) (from + i) 0 ≡ getD limits (entryPlace j x + i) 0
-      place i l =
-          let p : entryPlace j real + (from + i) ≡ entryPlace j x + i = omega arith in
-          getD-take (2 * span) (drop (entryPlace j real) limits) (from + i) 0 (omega arith)
-          ∙ getD-drop (entryPlace j real) limits (from + i) 0 ∙ ap (λ (n : ℕ). getD limits n 0) p
+  -- and none is wider than the single bits that are 1 in its label
+  axis-bits : (x : Axis) (g bound : ℕ) → g < 2 ^ axisBits q x
+      → ((i : ℕ) → i < axisBits q x → bitOf (axisBits q x) g i ≡ true
+      → getD limits (entryPlace j x + 2 ^ (axisBits q x - suc i)) 0 ≤ bound)
+      → getD limits (entryPlace j x + g) 0 ≤ bound
+  unfolding axisReach
+  axis-bits x g bound h bits =
+      let w = axisBits q x in
+      let at = axisStart q j x in
+      let limited : widestOf (λ i. bitOf w g (i - at)) limit at w ≤ bound = widest-le _ limit bound at w
+      (λ i k l e.
+      let r = i - at in
+      let s = 2 ^ (w - suc r) in
+      omega (
+        arith,
+        bits r (omega arith) e,
+        made .entry j inside x s (single-few w r (omega arith)),
+        widest-ge (λ n. bitOf w s (n - at)) limit at w i k l (single-bit w r),
+      )) in
+      omega (arith, made .entry j inside x g h, limited)
 
+  -- An axis's entries, lent by themselves
+  module _ (x : Axis) (from : ℕ) (e : entryPlace j x ≡ entryPlace j real + from) (room : from + 2 ^ axisBits q x ≤ 2 * span) where
+    -- are those of the array
+    place : (i : ℕ) → i < 2 ^ axisBits q x → getD (entriesOf limits j) (from + i) 0 ≡ getD limits (entryPlace j x + i) 0
+    place i l =
+        let p : entryPlace j real + (from + i) ≡ entryPlace j x + i = omega arith in
+        getD-take (2 * span) (drop (entryPlace j real) limits) (from + i) 0 (omega arith)
+        ∙ getD-drop (entryPlace j real) limits (from + i) 0 ∙ ap (λ (n : ℕ). getD limits n 0) p
+
+    -- So the last is the widest
+    last-widest : WidestLast (entriesOf limits j) from (axisBits q x)
+    last-widest g h = omega (arith, place g h, place (2 ^ axisBits q x - 1) (ones-lt (axisBits q x)), axis-widest x g h)
+
+    -- and none is wider than its single bits
+    by-bits : ByBits (entriesOf limits j) from (axisBits q x)
+    by-bits g bound h none bits =
+        let each = axis-bits x g bound h
+        (λ i l t. omega (arith, place (2 ^ (axisBits q x - suc i)) (single-few (axisBits q x) i l), bits i l t)) in
+        omega (arith, place g h, each)
+
+  -- Both hold of both axes
   pub entries-widest : q ≤ mostWidth → Widest q (entriesOf limits j)
-  entries-widest few = record {
-    real = entries-at real 0 (omega arith) (omega (arith, pow-mono (axis-few q real few)));
-    imaginary = entries-at imaginary span (omega arith) (omega (arith, pow-mono (axis-few q imaginary few)));
-  }
+  entries-widest few =
+      let first : 0 + 2 ^ axisBits q real ≤ 2 * span = omega (arith, pow-mono (axis-few q real few)) in
+      let second : span + 2 ^ axisBits q imaginary ≤ 2 * span = omega (arith, pow-mono (axis-few q imaginary few)) in
+      record {
+        real = last-widest real 0 (omega arith) first;
+        imaginary = last-widest imaginary span (omega arith) second;
+        real-bits = by-bits real 0 (omega arith) first;
+        imaginary-bits = by-bits imaginary span (omega arith) second;
+      }
 
 -- What the streams from `level` on give, by the bits of the label
 module _ (m q : ℕ) {limit : ℕ → ℕ} {limits : List ℕ} (made : Reaches q limit limits m) (bits : ℕ) where

@@ -1,6 +1,6 @@
 -- A node's children: by the entries of their stream all of them would be cut, or their keys are filled in.
 use Prim.Native.Nat.{ℕ, _+_, _-_, _*_, _≤_, _<_, _^_}
-use mathlib.Core.Path.{_≡_, refl, sym, _∙_, ap}
+use mathlib.Core.Path.{_≡_, sym, _∙_, ap}
 use mathlib.Core.List.{List}
 use native.Mathlib.Omega.{arith}
 use lib.IntN.{ℤ}
@@ -11,7 +11,7 @@ use Rattle.metric.specs.Parts.{span}
 use Rattle.metric.specs.Rows.{Measured}
 use Rattle.metric.specs.Tables.Axis.{real}
 use Rattle.cutoff.specs.Cut.{Beyond, Widest}
-use Rattle.reach.specs.Reach.{limitsSize, entryPlace, entriesOf, symbolOf}
+use Rattle.reach.specs.Reach.{entryPlace, entriesOf, symbolOf}
 use Rattle.siblings.specs.Rows.{Placed}
 use Rattle.search.specs.Limits.{LimitsAsked, baseOf}
 use Rattle.search.specs.Expand.{kidOf, Shut, Filled}

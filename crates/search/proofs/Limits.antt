@@ -3,9 +3,8 @@ use Prim.Native.Nat.{ℕ, suc, _+_, _-_, _*_, _/_, _%_, _^_, _≤_, _<_, min, ma
 use mathlib.Core.Path.{_≡_, refl, sym, _∙_, ap, ap₂, subst}
 use mathlib.Core.Bool.{Bool, true, false, cond, _&&_, _||_}
 use mathlib.Core.List.{List}
-use mathlib.Core.Logic.{⊎-elim}
 use native.Mathlib.Decide.{decLt}
-use native.Mathlib.Nat.{add-mul, le-trans, mod-lt}
+use native.Mathlib.Nat.{add-mul, mod-lt}
 use native.Mathlib.Omega.{arith}
 use lib.Bits.{bitXor, xor-lt}
 use lib.Dec.{leb, ltb}
@@ -17,7 +16,7 @@ use lib.Pow.{pow-pos, pow-mono}
 use lib.Signed.{ltZ}
 use Rattle.model.specs.Metric.{Vector, labelBits, priorAt}
 use Rattle.model.specs.Block.{mostWidth}
-use Rattle.model.proofs.Lists.{any-upFrom, or-left, or-right}
+use Rattle.model.proofs.Lists.{any-upFrom}
 use Rattle.model.proofs.Numbers.{first-half}
 use Rattle.metric.specs.Parts.{axisWidth, span, bitOf}
 use Rattle.metric.specs.Tables.{Axis, axisBits}
@@ -27,7 +26,8 @@ use Rattle.pruning.specs.Reach.{widestOf}
 use Rattle.pruning.proofs.Reach.{ltb-max, any-widest, widest-split, widest-same}
 use Rattle.cutoff.specs.Cut.{symbolReach}
 use Rattle.reach.specs.Reach.{firstPlace, entryPlace, entriesOf, axisStart, axisReach, Reaches, streamReach, chosenReach, symbolOf}
-use Rattle.reach.proofs.Passing.{entries-widest, stream-wider, chosen-is, chosen-child, xor-opposite}
+use Rattle.metric.proofs.Opposite.{xor-opposite}
+use Rattle.reach.proofs.Passing.{entries-widest, stream-wider, chosen-is, chosen-child}
 use Rattle.search.specs.Limits.{upOf, limitAt, Limited, passesAt, passesBy, opposite, WouldCut}
 
 up-is : (d : ℕ) (z : ℤ) → ltZ (pos d) z ≡ ltb d (upOf z)

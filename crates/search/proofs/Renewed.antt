@@ -14,7 +14,8 @@ use Rattle.metric.proofs.Filled.{filled-at, filled-rest, filled-length}
 use Rattle.pruning.specs.Program.{Taken, takenIn, zerosOf, onesOf, limitsOf, reachOf, loweredAt}
 use Rattle.pruning.proofs.Minima.{taken-kept, limits-are, limits-whole, limits-part, limits-length}
 use Rattle.reach.specs.Reach.{limitIn, limitsSize, StandsFor, Reaches}
-use Rattle.reach.proofs.Passing.{xor-opposite, still-stands}
+use Rattle.metric.proofs.Opposite.{xor-opposite}
+use Rattle.reach.proofs.Passing.{still-stands}
 use Rattle.search.specs.Limits.{minimaSize, upOf, limitAt, NarrowedTo, Renewed}
 use Rattle.search.proofs.Limits.{reaches-same, reached-limited}
 

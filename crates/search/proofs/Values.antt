@@ -4,7 +4,7 @@ use mathlib.Core.Path.{_≡_, refl, sym, _∙_, ap, ap₂, subst}
 use mathlib.Core.Bool.{Bool}
 use mathlib.Core.Logic.{⊎-elim}
 use mathlib.Core.List.{List, map, _++_}
-use native.Mathlib.Nat.{le-refl, le-trans, mul-le-mul, add-le-add, suc-mul, mod-lt}
+use native.Mathlib.Nat.{le-refl, le-trans, mul-le-mul, suc-mul, mod-lt}
 use native.Mathlib.Omega.{arith}
 use lib.IntN.{ℤ, natAbs}
 use lib.ListN.{length, getD, set, take, drop, replicate, length-replicate, getD-replicate}
@@ -24,7 +24,7 @@ use Rattle.metric.proofs.Tables.{axis-few}
 use Rattle.metric.proofs.Filled.{filled-more, filled-same}
 use Rattle.pruning.specs.Program.{above, sideOf, Taken, takenOf, takenIn, limitsOf, keptOf, fresh, chosen, below, valueOf, answerOf}
 use Rattle.pruning.specs.Reach.{widestOf}
-use Rattle.cutoff.specs.Cut.{WidestLast}
+use Rattle.cutoff.specs.Axes.{WidestLast, ByBits}
 use Rattle.reach.specs.Reach.{limitsSize, firstPlace, entryPlace, entriesOf, streamReach, chosenReach}
 use Rattle.siblings.specs.Rows.{keyCount}
 use Rattle.search.specs.Limits.{vectorAt, SearchAsked, minimaSize, keyPlaces, LimitsAsked, opposite}
@@ -72,6 +72,7 @@ module _ (m q a : ℕ) (streams : m ≤ mostStreams) (bits : q ≤ mostWidth) wh
       getD-take (2 * span) (drop (entryPlace j real) alike) i 0 k ∙ getD-drop (entryPlace j real) alike i 0
       ∙ at (entryPlace j real + i) (omega arith)
 
+  -- The last entry of an axis is the widest
   widest-at : (j from w : ℕ) → j < m → from ≤ span → w ≤ axisWidth → WidestLast (entriesOf alike j) from w
   widest-at j from w h k few g l =
       omega (
@@ -80,6 +81,11 @@ module _ (m q a : ℕ) (streams : m ≤ mostStreams) (bits : q ≤ mostWidth) wh
         entry-at j (from + (2 ^ w - 1)) h (omega (arith, pow-mono few, pow-pos w)),
       )
 
+  -- An entry is that of no bit
+  bits-at : (j from w : ℕ) → j < m → from ≤ span → w ≤ axisWidth → ByBits (entriesOf alike j) from w
+  bits-at j from w h k few g bound l none bits =
+      omega (arith, entry-at j (from + g) h (omega (arith, pow-mono few)), entry-at j from h (omega arith), none)
+
   pub all-same : LimitsAsked m q alike
   unfolding streamReach
   all-same = record {
@@ -87,6 +93,8 @@ module _ (m q a : ℕ) (streams : m ≤ mostStreams) (bits : q ≤ mostWidth) wh
     widest = λ j h. record {
       real = widest-at j 0 (axisBits q real) h (omega arith) (axis-few q real bits);
       imaginary = widest-at j span (axisBits q imaginary) h (omega arith) (axis-few q imaginary bits);
+      real-bits = bits-at j 0 (axisBits q real) h (omega arith) (axis-few q real bits);
+      imaginary-bits = bits-at j span (axisBits q imaginary) h (omega arith) (axis-few q imaginary bits);
     };
     wider = λ j s h l.
         omega (

@@ -57,16 +57,12 @@ boundsOf best limits n = record {
   cap = getD limits (firstPlace (n .level)) 0;
 }
 
--- What asking by the parts of their axes asks, which are measured
-pub record PartsAsked (t : Task) (numbers : List ℤ) (n : Node) (best : ℕ) (limits axes : List ℕ) : Type 0 where
+-- What counting a node's children asks: the parts of their axes are measured
+pub record BelowAsked (t : Task) (points numbers tables : List ℤ) (n : Node) (best : ℕ) (limits axes : List ℕ) : Type 0 where
   pub node : NodeIn (t .streams) (t .width) (t .clip) numbers n
   pub limited : LimitsAsked (t .streams) (t .width) limits
   pub lowest : best ≤ above
   pub measured : Measured (t .streams) (t .width) numbers (n .level - 1) (n .bits) axes
-
--- and what counting a node's children asks
-pub record BelowAsked (t : Task) (points numbers tables : List ℤ) (n : Node) (best : ℕ) (limits axes : List ℕ) : Type 0 where
-  pub parts : PartsAsked t numbers n best limits axes
   pub tabled : Tabled (t .streams) (t .width) numbers tables
   pub pointed : Points (t .width) points
 

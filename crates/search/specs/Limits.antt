@@ -69,8 +69,8 @@ pub record NarrowedTo (n label opposed d k : ℕ) (old new : List ℕ) : Type 0 
 abbrev pub keyPlaces : ℕ
 keyPlaces = 3 * keyCount mostWidth
 
--- The limits are as many as they are; of each axis's entries the last is the widest, and no symbol's limits are wider than those of all
--- streams up to its own
+-- The limits are as many as they are; of each axis's entries the last is the widest, and none is wider than its single bits; no symbol's
+-- limits are wider than those of all streams up to its own
 pub record LimitsAsked (m q : ℕ) (limits : List ℕ) : Type 0 where
   pub size : length limits ≡ limitsSize
   pub widest : (j : ℕ) → j < m → Widest q (entriesOf limits j)

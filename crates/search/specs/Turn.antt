@@ -4,7 +4,6 @@ use mathlib.Core.Path.{_≡_}
 use mathlib.Core.Bool.{true, false}
 use mathlib.Core.List.{List}
 use mathlib.Core.Logic.{_⊎_}
-use lib.Bits.{bitXor}
 use lib.IntN.{ℤ}
 use lib.ListN.{length, getD, take, drop}
 use Rattle.model.specs.Block.{mostStreams, mostWidth, mostBits}
@@ -12,9 +11,10 @@ use Rattle.constellation.specs.Points.{Points}
 use Rattle.metric.specs.Tables.{Tabled}
 use Rattle.pruning.specs.Arrays.{leastFirst}
 use Rattle.pruning.specs.Program.{above, Taken}
-use Rattle.reach.specs.Reach.{limitsSize, firstPlace, streamReach, symbolOf}
+use Rattle.reach.specs.Reach.{limitsSize}
 use Rattle.siblings.specs.Rows.{keyCount, RowLeast, Took}
-use Rattle.search.specs.Limits.{vectorAt, SearchAsked, LimitsAsked, Limited, passesAt, opposite}
+use Rattle.tally.specs.Tally.{oppositeReach}
+use Rattle.search.specs.Limits.{vectorAt, LimitsAsked, Limited, passesAt, opposite}
 use Rattle.search.specs.Expand.{NodeIn, Shut, BelowCounted, Filled}
 use Rattle.search.specs.declared.Task.{Task}
 use Rattle.search.specs.declared.Node.{Node}
@@ -45,7 +45,7 @@ nextOf m q n label limits keys =
       level = n .level - 1;
       bits = s * 2 ^ ((m - n .level) * q) + n .bits;
       partial = getD keys s 0;
-      chosen = max (streamReach q limits (n .level - 1) (bitXor s (symbolOf m q label (n .level - 1)))) (n .chosen);
+      chosen = max (oppositeReach m q label limits (n .level - 1) s) (n .chosen);
     }
 
 -- That child is taken

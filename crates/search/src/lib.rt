@@ -11,7 +11,7 @@ use siblings::Row;
 use tally::Counted;
 ghost use mathlib.Core.Path.{_≡_};
 ghost use mathlib.Core.Bool.{true, false, cond};
-ghost use Prim.Native.Nat.{_+_, _*_, _-_, _<_, _≤_, _^_, min, max};
+ghost use Prim.Native.Nat.{_+_, _*_, _-_, _<_, _≤_, _^_, min};
 ghost use lib.Dec.{ltb};
 ghost use lib.IntN.{natAbs};
 ghost use lib.ListN.{length, getD, set, take};
@@ -27,7 +27,7 @@ ghost use Rattle.pruning.specs.Program.{above, sideOf, valueOf, takenIn, zerosO
 ghost use Rattle.reach.specs.Reach.{limitsSize, symbolOf};
 ghost use Rattle.siblings.specs.Rows.{keyCount, LeastRow};
 ghost use Rattle.search.specs.Limits.{vectorFor, Asked, upOf, limitAt, minimaSize, minimumPlace, NotedTo, NarrowedTo, keyPlaces, passesAt, baseOf, Limited, Renewed};
-ghost use Rattle.search.specs.Expand.{OpenAsked, Shut, PartsAsked, BelowAsked, BelowCounted, ExpandAsked, Filled, Expanded};
+ghost use Rattle.search.specs.Expand.{OpenAsked, Shut, BelowAsked, BelowCounted, ExpandAsked, Filled, Expanded};
 ghost use Rattle.search.specs.Turn.{NextAsked, NextChild, AdvanceAsked, Advanced, Renewal, NodeAsked};
 ghost use Rattle.search.specs.Values.{MinimaLow, Answered};
 
@@ -387,7 +387,8 @@ fn own_symbol(task: Task, node: Node, label: u32) -> usize
     metric::symbol_at(label, task.width, after)
 }
 
-// May a child of a node pass? `left` is what remains of y in the row of the children.
+// May a child of a node pass? `left` is what remains of y in the row of the children. The distances are asked first, and of a parent of
+// leaves, where there are prior costs, the parts.
 fn opens(
     task: Task,
     node: Node,
@@ -409,13 +410,27 @@ fn opens(
     let base = base_of(node, kept, limits);
     let own = own_symbol(task, node, kept.label);
     let at = reach::ENTRIES + row * reach::STREAM;
-    cutoff::opens(
+    if !cutoff::opens(
         shape,
         row,
         left,
         node.partial,
         base,
         numbers,
+        &limits[at..at + reach::STREAM],
+        own,
+    ) {
+        return false;
+    }
+    if row != 0 || !cutoff::priced(task.width, row, tables) {
+        return true;
+    }
+    cutoff::opens_by_parts(
+        task.width,
+        row,
+        left,
+        node.partial,
+        base,
         tables,
         &limits[at..at + reach::STREAM],
         own,
@@ -469,49 +484,6 @@ fn count_below(
     )
 }
 
-// Has a symbol of the first stream any prior cost? The labels of an axis whose bits are all 0 and all 1 have none only where no bit of it has
-// a prior. Whether a question is worth asking is all that depends on it.
-fn priced(q: usize, tables: &[i32; TABLE]) -> bool
-    requires { ⌜ q ≤ mostWidth ⌝ }
-{
-    let real = AXES / 2;
-    let imaginary = 3 * real;
-    let first = tables[real] | tables[real + ((1 << (q - q / 2)) - 1)];
-    let second = tables[imaginary] | tables[imaginary + ((1 << (q / 2)) - 1)];
-    first | second != 0
-}
-
-// Would every leaf below a parent of leaves be cut, by the parts of their two axes? Asked only where there are priors: the distances, by which
-// `opens` was answered, are the parts where there are none.
-fn leaves_shut(
-    task: Task,
-    node: Node,
-    kept: Kept,
-    numbers: &[i32],
-    tables: &[i32; TABLE],
-    limits: &[u64],
-    axes: &[u64; AXES],
-) -> bool
-    requires { ⌜ PartsAsked task (now numbers) node (kept .best) (now limits) (now axes) ⌝ }
-    ensures { λ r. ⌜ (r ≡ true → Shut (task .streams) (task .width) (now (numbers .entry)) node (kept .label) (kept .best)
-        (now (limits .entry))) ⌝ }
-{
-    if node.level != 1 || !priced(task.width, tables) {
-        return false;
-    }
-    let base = base_of(node, kept, limits);
-    let own = own_symbol(task, node, kept.label);
-    let at = reach::ENTRIES + (node.level - 1) * reach::STREAM;
-    cutoff::shuts(
-        task.width,
-        node.partial,
-        base,
-        axes,
-        &limits[at..at + reach::STREAM],
-        own,
-    )
-}
-
 // What is found of a node's children. Their parts are made only where one may pass, and their keys only where the search has more to do than
 // to count them.
 fn expand(
@@ -539,9 +511,6 @@ fn expand(
     };
     let mut axes = [0u64; AXES];
     metric::fill_parts(shape, row, left, numbers, tables, &mut axes);
-    if leaves_shut(task, node, kept, numbers, tables, limits, &axes) {
-        return Children::Nothing;
-    }
     let below = count_below(task, node, kept, points, numbers, tables, limits, &axes);
     if below.sure {
         return Children::Number(below.count);
@@ -652,16 +621,8 @@ fn walk(
     let mut parent = node;
     let mut tried = 0;
     while tried != n {
-        match advance(
-            task,
-            parent,
-            k,
-            points,
-            numbers,
-            tables,
-            &minima[LIMITS..],
-            keys,
-        ) {
+        let limits = &minima[LIMITS..];
+        match advance(task, parent, k, points, numbers, tables, limits, keys) {
             Turn::Ended => return k,
             Turn::Stop => return halted(k),
             Turn::Left(more) => {
@@ -676,16 +637,9 @@ fn walk(
                 k = found;
             }
             Turn::Enter(child) => {
-                k = walk(
-                    task,
-                    child,
-                    counted(k),
-                    points,
-                    numbers,
-                    tables,
-                    minima,
-                    &mut keys[places..],
-                );
+                let next = counted(k);
+                let lower = &mut keys[places..];
+                k = walk(task, child, next, points, numbers, tables, minima, lower);
                 if k.stopped {
                     return k;
                 }

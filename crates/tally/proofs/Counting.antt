@@ -85,9 +85,9 @@ module _ (f : Family) (numbers : List ℤ) (limits : List ℕ) (wide d s count :
 
 -- and by its place among its siblings
 pub counted-child : (f : Family) (numbers : List ℤ) (limits : List ℕ) (key : ℕ → ℕ) {n count : ℕ} (next wide d : ℕ)
-    → CountedTo (passesIn f limits key) (IdleIn f numbers limits key) n count → wide ≡ wideIn f limits n → d ≡ key n
-    → ChildCounted f numbers limits wide d n count next → CountedTo (passesIn f limits key) (IdleIn f numbers limits key) (n + 1) next
-counted-child f numbers limits key next wide d before e k child =
+    → CountedTo (passesIn f limits key) (IdleIn f numbers limits key) n count → ChildCounted f numbers limits wide d n count next
+    → wide ≡ wideIn f limits n → d ≡ key n → CountedTo (passesIn f limits key) (IdleIn f numbers limits key) (n + 1) next
+counted-child f numbers limits key next wide d before child e k =
     let is = rw (e, k) at child in
     counted-more before next (is .count-is) (is .idle)
 

@@ -8,7 +8,7 @@ use lib.Dec.{leb, ltb}
 use lib.IntN.{ℤ}
 use lib.ListN.{length, getD}
 use Rattle.constellation.specs.Points.{Points}
-use Rattle.metric.specs.Parts.{span, childMetric, realIn, imaginaryIn}
+use Rattle.metric.specs.Parts.{childMetric, realIn, imaginaryIn}
 use Rattle.metric.specs.Rows.{VectorAsked, childOf}
 use Rattle.metric.specs.Tables.{Tabled}
 use Rattle.pruning.specs.Counted.{passCount}
@@ -53,5 +53,4 @@ pub record CountAsked (m q level bits : ℕ) (b : Bounds) (points numbers tables
   pub capped : (s : ℕ) → s < 2 ^ q → streamReach q limits (level - 1) s ≤ b .cap
   pub size : length limits ≡ limitsSize
   pub widest : Widest q (entriesOf limits (level - 2))
-  pub measured : length axes ≡ 2 * span
   pub small : (s : ℕ) → s < 2 ^ q → childMetric q partial (realIn axes) (imaginaryIn axes) s < 2 ^ 61

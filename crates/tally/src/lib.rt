@@ -8,7 +8,7 @@ use metric::Shape;
 use metric::TABLE;
 ghost use mathlib.Core.Path.{_≡_};
 ghost use mathlib.Core.Bool.{true, false};
-ghost use Prim.Native.Nat.{_+_, _*_, _<_, _≤_, _^_};
+ghost use Prim.Native.Nat.{_+_, _*_, _<_, _≤_, _^_, max};
 ghost use lib.IntN.{natAbs};
 ghost use lib.ListN.{length};
 ghost use Rattle.model.specs.Block.{mostWidth};
@@ -32,7 +32,7 @@ pub struct Counted {
 // `low` is that with the smallest imaginary part: no child of a row has a smaller key than `low` and the row's real part. A child passes
 // below `base`, or below a limit of its own bits; none of these is wider than `cap`. A child's own children are held against `after`. `own`
 // is the best label's symbol at the children's stream, and `next` that at the stream of their children; `rest` is what remains of y in the
-// row of that stream before a child's own symbol is taken away.
+// row of that stream before a child's own symbol is taken away, and `priced` says whether its symbols have prior costs.
 struct Family {
     shape: Shape,
     level: usize,
@@ -45,6 +45,7 @@ struct Family {
     own: usize,
     next: usize,
     rest: Complex,
+    priced: bool,
 }
 
 // What remains of y in the row of the children's children, before the symbol of a child is taken away: that of the child with symbol 0, with
@@ -105,6 +106,7 @@ fn family_of(
     label: u32,
     points: &[i8; PLACES],
     numbers: &[i32],
+    tables: &[i32; TABLE],
     limits: &[u64],
 ) -> Family
     requires { ⌜ RestAsked (shape .streams) (shape .width) level bits (now points) (now numbers) × (bounds .best < 2 ^ 40)
@@ -120,6 +122,7 @@ fn family_of(
     let own = metric::symbol_at(label, q, (m - level) * q);
     let next = metric::symbol_at(label, q, (m - (level - 1)) * q);
     let rest = rest_of(shape, level, bits, points, numbers);
+    let priced = cutoff::priced(q, level - 2, tables);
     Family {
         shape,
         level,
@@ -132,6 +135,7 @@ fn family_of(
         own,
         next,
         rest,
+        priced,
     }
 }
 
@@ -152,7 +156,8 @@ fn left_at(family: Family, symbol: usize, points: &[i8; PLACES], numbers: &[i32]
     Complex { re, im }
 }
 
-// May a child of the child with symbol `symbol` and partial metric d pass? `wide` is the widest limit of the child's own bits.
+// May a child of the child with symbol `symbol` and partial metric d pass? `wide` is the widest limit of the child's own bits. The distances
+// are asked first, and where there are prior costs the parts.
 fn opens_below(
     family: Family,
     symbol: usize,
@@ -171,25 +176,42 @@ fn opens_below(
     let at = reach::ENTRIES + (family.level - 2) * reach::STREAM;
     let left = left_at(family, symbol, points, numbers);
     let base = reach::larger(family.after, wide);
-    cutoff::opens(
+    if !cutoff::opens(
         shape,
         row,
         left,
         d,
         base,
         numbers,
+        &limits[at..at + reach::STREAM],
+        family.next,
+    ) {
+        return false;
+    }
+    if !family.priced {
+        return true;
+    }
+    cutoff::opens_by_parts(
+        shape.width,
+        row,
+        left,
+        d,
+        base,
         tables,
         &limits[at..at + reach::STREAM],
         family.next,
     )
 }
 
-// One child more: it is counted if it passes, and then none of its own children may.
+// One child more: it is counted if it passes, and then none of its own children may. It passes below `near`, which is the family's base or
+// the widest limit `re` of its real bits, or below that of its imaginary bits, `im`.
 fn count_child(
     family: Family,
     symbol: usize,
     d: u64,
-    wide: u64,
+    near: u64,
+    re: u64,
+    im: u64,
     count: u32,
     points: &[i8; PLACES],
     numbers: &[i32],
@@ -197,13 +219,14 @@ fn count_child(
     limits: &[u64],
 ) -> Counted
     requires { ⌜ FamilyAsked family (now points) (now numbers) (now tables) (now limits) × (symbol < 2 ^ family .shape .width) × (d < 2 ^ 61)
-        × (count ≤ 2 ^ mostWidth) ⌝ }
+        × (count ≤ 2 ^ mostWidth) × (near ≡ max (family .base) re) ⌝ }
     ensures { λ r. ⌜ (r .sure ≡ true
-        → ChildCounted family (now (numbers .entry)) (now (limits .entry)) wide d symbol count (r .count)) ⌝ }
+        → ChildCounted family (now (numbers .entry)) (now (limits .entry)) (max re im) d symbol count (r .count)) ⌝ }
 {
-    if reach::larger(family.base, wide) <= d {
+    if near <= d && im <= d {
         return Counted { sure: true, count };
     }
+    let wide = reach::larger(re, im);
     let opens = opens_below(family, symbol, d, wide, points, numbers, tables, limits);
     Counted {
         sure: !opens,
@@ -231,18 +254,21 @@ fn count_columns(
     let columns: usize = 1 << (q / 2);
     let at = reach::ENTRIES + (family.level - 1) * reach::STREAM;
     let re = limits[at + (a ^ (family.own >> (q / 2)))];
+    let near = reach::larger(family.base, re);
     let own = family.own & (columns - 1);
     let row = family.partial + axes[a];
     let mut count = before;
     let mut b = 0;
     while b < columns {
         let symbol = a * columns + b;
-        let wide = reach::larger(re, limits[at + SPAN + (b ^ own)]);
+        let im = limits[at + SPAN + (b ^ own)];
         let child = count_child(
             family,
             symbol,
             row + axes[SPAN + b],
-            wide,
+            near,
+            re,
+            im,
             count,
             points,
             numbers,
@@ -320,6 +346,7 @@ pub fn count_passing(
         label,
         points,
         numbers,
+        tables,
         limits,
     );
     let mut count: u32 = 0;

@@ -10,7 +10,10 @@ any-part-of-spec =
     (λ c κs. let s = c .before .before in let f = s .fits .left in simp toZ-ofZ (rw (c .if1 .taken) at (s .pre)))
     (λ c. let t = c .before in let f = t .before .before .fits .left in rw (t .if1 .taken) (simp toZ-ofZ at (c .any-part .ensures)))
     (λ c κs. let s = c .before .before .before in let f = s .fits .left in simp toZ-ofZ (rw (c .if2 .taken) at (s .pre)))
-    (λ c. let t = c .before in let f = t .before .before .before .fits .left in rw (t .if2 .taken) (simp toZ-ofZ at (c .any-part2 .ensures)))
+    (λ c.
+    let t = c .before in
+    let f = t .before .before .before .fits .left in
+    rw (t .if2 .taken) (simp toZ-ofZ at (c .any-part2 .ensures)))
     (λ c κs. let s = c .before .before .before .before in let f = s .fits .left in simp toZ-ofZ (rw (c .if3 .taken) at (s .pre)))
     (λ c.
     let t = c .before in

@@ -1,39 +1,62 @@
--- The invariant: `least` is the least of the first g parts.
-use Prim.Native.Nat.{_+_, _-_}
+-- The invariant: none of the first g parts is below `least`. What remains is its bits inside the loop.
+use Prim.Native.Nat.{_-_, _^_}
 use mathlib.Core.Path.{_≡_}
 use mathlib.Core.Logic.{⊎-elim}
 use native.Mathlib.Omega.{arith}
+use mir.Syntax.{w64}
+use mir.Val.{toZ}
+use mir.Facts.{toZ-ofZ}
+use Rattle.metric.specs.Tables.{tablePart}
 use Rattle.cutoff.specs.Axes.{LeastOf}
-use Rattle.cutoff.proofs.Runs.{least-more}
+use Rattle.cutoff.proofs.Runs.{least-more, labels-few, label-asked}
 use Rattle.cutoff.proofs.least_among.Statement.{statement}
 use Rattle.cutoff.proofs.least_among.Tie as tie
 
 abbrev Inv-loop : tie.InvT-loop
-Inv-loop axes from n least₀ g₀ least g = LeastOf axes from g least
+Inv-loop tables at left w n least₀ g₀ least g = (n ≡ 2 ^ w) × LeastOf (tablePart tables at (toZ w64 left)) g least
 
 abbrev μ-loop : tie.MeasureT-loop
-μ-loop axes from n least₀ g₀ least g = n - g
+μ-loop tables at left w n least₀ g₀ least g = n - g
+
+abbrev begin : tie.In-loop Inv-loop μ-loop → tie.Start Inv-loop μ-loop
+begin c = c .before .before .before
+
+first-asked : tie.Need-part-at-requires Inv-loop μ-loop
+first-asked c κs = let f = c .fits .left in simp toZ-ofZ (label-asked (c .pre .axis) 0 (labels-few (c .args .w) (c .pre .axis .bits) .1))
+
+next-asked : tie.Need-part-at-requires-2 Inv-loop μ-loop
+next-asked c κs = let s = begin c in let f = s .fits .left in simp toZ-ofZ (label-asked (s .pre .axis) (c .before .loop .g) (omega arith))
 
 loop-holds : tie.Need-loop-holds Inv-loop μ-loop
 loop-holds c =
     let s = c .before in
-    record {
-      low = s .pre .small (s .args .from);
-      least-le = λ g h. let e : s .args .from + g ≡ s .args .from = omega arith in rw e (omega arith);
-    }
+    let f = s .fits .left in
+    let few = labels-few (s .args .w) (s .pre .axis .bits) in
+    let is = c .part-at .ensures in (
+      few .0,
+      record {
+        low = omega (arith, simp toZ-ofZ at is, s .pre .small 0 (few .1));
+        least-le = λ g h. let e : g ≡ 0 = omega arith in rw e (omega (arith, is));
+      },
+    )
 
 loop-again : tie.Need-loop-again Inv-loop μ-loop
 loop-again c =
-    let was = c .before .before .before .loop .inv in
-    ⊎-elim
-    (λ w. least-more was (c .if1 .least) (omega (arith, w .0 .taken, w .1)) (omega (arith, w .0 .taken, w .1)))
-    (λ w. least-more was (c .if1 .least) (omega (arith, w .0 .left, w .1)) (omega (arith, w .0 .left, w .1)))
-    (c .if1 .came)
+    let p = c .before in
+    let was = p .before .before .loop .inv in
+    let is = p .part-at2 .ensures in (
+      was .0,
+      ⊎-elim
+          (λ t. least-more (was .1) (c .if1 .least) (omega (arith, t .0 .taken, t .1)) (omega (arith, t .0 .taken, t .1, is)))
+          (λ e. least-more (was .1) (c .if1 .least) (omega (arith, e .0 .left, e .1)) (omega (arith, e .0 .left, e .1, is)))
+          (c .if1 .came),
+    )
 
 returns : tie.Need-returns Inv-loop μ-loop
 returns c =
-    let was = c .before .loop .inv in
-    record { low = was .low; least-le = λ g h. was .least-le g (omega arith) }
+    let f = c .before .before .before .fits .left in
+    let was = c .before .loop .inv .1 in
+    record { low = was .low; least-le = λ g h. simp toZ-ofZ at (was .least-le g (omega arith)) }
 
 pub least-among-spec : {M : Type 1} → statement M
 least-among-spec =
@@ -41,12 +64,10 @@ least-among-spec =
     (tie.spec
     Inv-loop
     μ-loop
-    (λ c. omega (arith, c .pre .place))
-    (λ c. omega (arith, c .pre .place))
+    (λ c. omega (arith, c .pre .axis .bits))
+    first-asked
     loop-holds
-    (λ c. omega (arith, c .before .before .before .pre .place))
-    (λ c. omega (arith, c .before .before .before .pre .place))
-    (λ c. omega (arith, c .before .before .before .pre .place))
+    next-asked
     (λ c. omega arith)
     (λ c. omega arith)
     loop-again

@@ -1,18 +1,15 @@
--- Eight parts or four are n of them.
-use borrow.Author.Needs.{needs}
-use native.Mathlib.Omega.{arith}
+-- Three bits, two or any other number of them: the same pass.
+use mir.Facts.{toZ-ofZ}
 use Rattle.cutoff.proofs.least_part.Statement.{statement}
 use Rattle.cutoff.proofs.least_part.Tie as tie
 
-returns : tie.Need-returns
-returns c =
-    let was = c .least-among .ensures in
-    record { low = was .low; least-le = λ g h. was .least-le g (omega arith) }
-
-returns-2 : tie.Need-returns-2
-returns-2 c =
-    let was = c .least-among2 .ensures in
-    record { low = was .low; least-le = λ g h. was .least-le g (omega arith) }
-
 pub least-part-spec : {M : Type 1} → statement M
-least-part-spec = tie.close (tie.spec (λ c κs. search needs) returns (λ c κs. search needs) returns-2 (λ c κs. search needs) (λ c. search needs))
+least-part-spec =
+    tie.close
+    (tie.spec
+    (λ c κs. let s = c .before in let f = s .fits .left in simp toZ-ofZ (rw (c .if1 .taken) at (s .pre)))
+    (λ c. let t = c .before in let f = t .before .fits .left in rw (t .if1 .taken) (simp toZ-ofZ at (c .least-among .ensures)))
+    (λ c κs. let s = c .before .before in let f = s .fits .left in simp toZ-ofZ (rw (c .if2 .taken) at (s .pre)))
+    (λ c. let t = c .before in let f = t .before .before .fits .left in rw (t .if2 .taken) (simp toZ-ofZ at (c .least-among2 .ensures)))
+    (λ c κs. let s = c .before .before in let f = s .fits .left in simp toZ-ofZ (s .pre))
+    (λ c. let f = c .before .before .before .fits .left in simp toZ-ofZ at (c .least-among3 .ensures)))

@@ -1,4 +1,4 @@
--- The nearest distances bound every child's partial metric from below, and an axis's parts with that of the other axis.
+-- The nearest distances bound every child's partial metric from below, and a label's squared distance with that of the other axis.
 use borrow.Author.Needs.{needs, sfits-of}
 use Prim.Native.Nat.{ℕ, _+_, _-_, _*_, _/_, _%_, _^_, _≤_, _<_}
 use mathlib.Core.Path.{_≡_, sym, _∙_, ap, subst}
@@ -14,14 +14,14 @@ use mir.Facts.{toZ-ofZ, fits-natAbs}
 use Rattle.integers.proofs.Fits.{sfits-abs}
 use Rattle.model.specs.Block.{mostEntry}
 use Rattle.model.proofs.Numbers.{first-half}
-use Rattle.metric.specs.Parts.{span, nearestOf}
+use Rattle.metric.specs.Parts.{span, axisDistance, nearestOf}
 use Rattle.metric.specs.Rows.{rowStart}
-use Rattle.metric.specs.Tables.{Axis, axisPlace, axisBits, tablePart}
+use Rattle.metric.specs.Tables.{Axis, axisBits}
 use Rattle.metric.specs.Tables.Axis.{real, imaginary}
 use Rattle.metric.proofs.Rows.{row-end, square-few, diagonal-within}
 use Rattle.cutoff.specs.Axes.{NoneOver}
 use Rattle.cutoff.proofs.Halves.{imaginary-lt, labels, masked}
-use Rattle.cutoff.proofs.Near.{square-small, nearIn, part-asked, none-wide, all-beyond}
+use Rattle.cutoff.proofs.Near.{square-small, bit-asked, none-wide, all-beyond}
 use Rattle.cutoff.proofs.opens.Statement.{statement}
 use Rattle.cutoff.proofs.opens.Tie as tie
 
@@ -95,23 +95,23 @@ module _ (c : tie.After-nearest2) where
   abbrev near-im : ℕ
   near-im = c .nearest2 .result
 
-  re-is : near-re ≡ nearIn (start .args .shape .streams) (start .args .shape .width) (start .args .numbers .now) (start .args .row) real
-      (start .args .left .re)
+  abbrev diagonal : ℕ
+  diagonal = natAbs (entry .element .result)
+
+  stands : diagonal ≡ natAbs (getD (start .args .numbers .now) (rowStart (start .args .shape .streams) (start .args .row)) (pos 0))
+  stands = ap natAbs (diagonal-is entry)
+
+  re-is : near-re ≡ nearestOf diagonal (axisBits (start .args .shape .width) real) (natAbs (start .args .left .re))
   re-is =
-      let q = start .args .shape .width in
       let e = diagonal-fits entry in
       let f = re-fits start in
       simp toZ-ofZ at (c .before .before .nearest .ensures .0)
-      ∙ ap (λ (d : ℤ). nearestOf (natAbs d) (q - q / 2) (natAbs (start .args .left .re))) (diagonal-is entry)
 
-  im-is : near-im ≡ nearIn (start .args .shape .streams) (start .args .shape .width) (start .args .numbers .now) (start .args .row) imaginary
-      (start .args .left .im)
+  im-is : near-im ≡ nearestOf diagonal (axisBits (start .args .shape .width) imaginary) (natAbs (start .args .left .im))
   im-is =
-      let q = start .args .shape .width in
       let e = diagonal-fits entry in
       let f = im-fits start in
       simp toZ-ofZ at (c .nearest2 .ensures .0)
-      ∙ ap (λ (d : ℤ). nearestOf (natAbs d) (q / 2) (natAbs (start .args .left .im))) (diagonal-is entry)
 
   -- The three numbers are small enough to add
   small : (start .args .partial < 2 ^ 61) × (near-re * near-re < 2 ^ 60) × (near-im * near-im < 2 ^ 60)
@@ -127,42 +127,46 @@ module _ (c : tie.After-nearest2) where
       (1 * 2 ^ w % 2 ^ 64 ≡ 2 ^ w) × (1 ≤ 2 ^ w) × (2 ^ w ≤ span)
   count x = labels (start .args .shape .width) x (start .pre .vector .bits)
 
-real-asked : tie.Need-any-part-of-requires
+real-asked : tie.Need-any-bit-of-requires
 real-asked c κs =
     let n = c .before .before .before .before in
     let s = start n in
+    let e = diagonal-fits (entry n) in
     let f = re-fits s in
     simp toZ-ofZ
-    (part-asked (s .pre) real _ (s .args .left .re) _ _ _ (omega arith) (s .pre .low-re) (omega (arith, small n)) (omega arith)
-    (first-half (s .args .shape .width) (s .args .own) (s .pre .symbol)))
+    (bit-asked (s .pre) (diagonal n) (stands n) real (s .args .left .re) _ (near-re n) _ _ (re-is n) (omega arith)
+    (first-half (s .args .shape .width) (s .args .own) (s .pre .symbol)) _ (s .pre .low-re) (omega (arith, small n)) (omega arith))
 
-imaginary-asked : tie.Need-any-part-of-requires-2
+imaginary-asked : tie.Need-any-bit-of-requires-2
 imaginary-asked c κs =
     let n = c .before .before .before .before .before .before in
     let s = start n in
     let q = s .args .shape .width in
+    let e = diagonal-fits (entry n) in
     let f = im-fits s in
     simp toZ-ofZ
     (rw (masked q (s .args .own) (s .pre .vector .bits))
-    (part-asked (s .pre) imaginary _ (s .args .left .im) _ _ _ (omega arith) (s .pre .low-im) (omega (arith, small n)) (omega arith)
-    (imaginary-lt q (s .args .own))))
+    (bit-asked (s .pre) (diagonal n) (stands n) imaginary (s .args .left .im) _ (near-im n) _ _ (im-is n) (omega arith)
+    (imaginary-lt q (s .args .own)) _ (s .pre .low-im) (omega (arith, small n)) (omega arith)))
 
--- Behind the real axis no real part is below its entry: its parts were held against the entries, or the widest of these is not above `low`
+-- Behind the real axis no real label is below its entry: the limits of its bits were held against the distances, or the widest entry is not
+-- above `low`
 over-re : (c : tie.Joined2)
     → let n = c .before .before .before in
     let a = start n .args in
     let q = a .shape .width in
-    NoneOver (a .entries .now) 0 (2 ^ (q - q / 2)) (tablePart (a .tables .now) (axisPlace (a .row) real) (a .left .re))
+    NoneOver (a .entries .now) 0 (2 ^ (q - q / 2)) (axisDistance (a .left .re) (pos (diagonal n)) (q - q / 2))
     (a .partial + near-im n * near-im n) (a .own / 2 ^ (q / 2))
 over-re c =
     let n = c .before .before .before in
     let s = start n in
     let q = s .args .shape .width in
+    let e = diagonal-fits (entry n) in
     let f = re-fits s in
     ⊎-elim (λ t. simp toZ-ofZ at (t .2 .ensures (t .3 .left)))
     (λ e.
-    none-wide (s .pre) real (s .args .left .re) _ (near-re n) _ _ _ (s .pre .low-re) (re-is n) (omega arith)
-    (first-half q (s .args .own) (s .pre .symbol)) (omega (arith, count n real)) (e .left)) (c .if2 .came)
+    none-wide (s .pre) (diagonal n) (stands n) real (s .args .left .re) _ (near-re n) _ _ (re-is n) (omega arith)
+    (first-half q (s .args .own) (s .pre .symbol)) _ (omega (arith, count n real)) (e .left)) (c .if2 .came)
 
 returns : tie.Need-returns
 returns c e = let z : _≡_ {A = ℕ} 0 1 = cc in absurd (omega arith)
@@ -177,9 +181,9 @@ returns-3 c e =
     let n = l .before in
     let s = start n in
     let q = s .args .shape .width in
-    all-beyond (s .pre) (near-re n) (near-im n) (s .args .base) (re-is n) (im-is n) (l .if1 .left) (over-re j)
-    (none-wide (s .pre) imaginary (s .args .left .im) _ (near-im n) _ _ _ (s .pre .low-im) (im-is n) (omega arith)
-    (imaginary-lt q (s .args .own)) (omega (arith, count n imaginary)) (c .if4 .taken))
+    all-beyond (s .pre) (diagonal n) (stands n) (near-re n) (near-im n) (s .args .base) (re-is n) (im-is n) (l .if1 .left) (over-re j)
+    (none-wide (s .pre) (diagonal n) (stands n) imaginary (s .args .left .im) _ (near-im n) _ _ (im-is n) (omega arith)
+    (imaginary-lt q (s .args .own)) _ (omega (arith, count n imaginary)) (c .if4 .taken))
 
 returns-4 : tie.Need-returns-4
 returns-4 c e =
@@ -188,9 +192,10 @@ returns-4 c e =
     let n = l .before in
     let s = start n in
     let q = s .args .shape .width in
+    let d = diagonal-fits (entry n) in
     let f = im-fits s in
-    all-beyond (s .pre) (near-re n) (near-im n) (s .args .base) (re-is n) (im-is n) (l .if1 .left) (over-re j)
-    (simp (toZ-ofZ, masked q (s .args .own) (s .pre .vector .bits)) at (c .any-part-of2 .ensures e))
+    all-beyond (s .pre) (diagonal n) (stands n) (near-re n) (near-im n) (s .args .base) (re-is n) (im-is n) (l .if1 .left) (over-re j)
+    (simp (toZ-ofZ, masked q (s .args .own) (s .pre .vector .bits)) at (c .any-bit-of2 .ensures e))
 
 pub opens-spec : {M : Type 1} → statement M
 opens-spec =
@@ -211,21 +216,17 @@ opens-spec =
     (λ c. omega (arith, small c))
     returns
     (λ c. search needs)
-    (λ c. search needs)
-    (λ c. search needs)
     (λ c. omega (arith, count (c .before) imaginary))
-    (λ c. search needs)
     (λ c. search needs)
     (λ c. omega (arith, count (c .before) real))
     (λ c. omega (arith, count (c .before) real))
     (λ c. omega (arith, count (c .before .before) real, start (c .before .before) .pre .stream))
+    (λ c. search needs)
     real-asked
     returns-2
     (λ c. omega (arith, count (c .before .before .before) imaginary))
     (λ c. omega (arith, count (c .before .before .before) imaginary))
     (λ c. omega (arith, count (c .before .before .before .before) imaginary, start (c .before .before .before .before) .pre .stream))
     returns-3
-    (λ c. search needs)
-    (λ c. search needs)
     imaginary-asked
     returns-4)

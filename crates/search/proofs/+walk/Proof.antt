@@ -1,9 +1,9 @@
 -- Each turn over the node's children is one step of the search below the node, as the turn's answer says.
 use mathlib.Core.Logic.{⊎-elim}
-use mathlib.Core.Bool.{true, false}
+use mathlib.Core.Bool.{false}
 use mathlib.Core.Path.{_≡_, refl, _∙_, sym, ap, ap₂, subst}
 use mathlib.Core.List.{List}
-use Prim.Native.Nat.{ℕ, _<_, _≤_, _+_, _-_, _*_, _/_, _%_, _^_}
+use Prim.Native.Nat.{ℕ, _<_, _≤_, _+_, _-_, _^_}
 use native.Mathlib.Omega.{arith}
 use native.Mathlib.Nat.{le-refl}
 use borrow.Author.Needs.{needs}
@@ -318,9 +318,9 @@ pub +walk-spec : {M : Type 1} → statement M
     (n .asked .vector .streams, n .asked .vector .bits, n .inside, rw (limits-part m) (limits-length m ∙ omega (arith, w .take-leaf .ensures .2))))
     (λ c. c .match .keys5)
     (λ c κs. countable t (c .before .before .before .before .before) (entered t (c .before) .0 .more))
-    (λ c. let a = c .before .before .before .before .before .before .before in omega (arith, loop t a .loop .inv .1, places-few (searching t a .node)))
-    (λ c. let a = c .before .before .before .before .before .before .before in rw (loop t a .loop .inv .1) (wide t a))
-    (λ c. let a = c .before .before .before .before .before .before .before in rw (loop t a .loop .inv .1) (wide t a))
+    (λ c. let a = c .before .before .before .before .before .before in omega (arith, loop t a .loop .inv .1, places-few (searching t a .node)))
+    (λ c. let a = c .before .before .before .before .before .before in rw (loop t a .loop .inv .1) (wide t a))
+    (λ c. let a = c .before .before .before .before .before .before in rw (loop t a .loop .inv .1) (wide t a))
     (λ c. le-refl _)
     (λ c κs. let e = c .before .before .before .before in let a = turned t e in let s = begin t a in let l = loop t a .loop in let h = searching t a in let r = entered t e in let k = c .before .before .counted2 .ensures in (
       omega (arith, s .pre .0, l .inv .4, h .inner, ap (λ (n : Node). n .level) (r .1)),
@@ -374,7 +374,7 @@ pub +walk-spec : {M : Type 1} → statement M
       omega (arith, more t a, l .inv .0),
     ))
     (⊎-elim
-    (λ x. let w : walk-lts.After-walk (calls t) (walk-at t) walk.Post Inv μ-loop = record { before = record { before = record { before = record { before = record { before = record { before = record { before = c .before; match = x .0 }; child = x .1 }; known-told3 = x .2 }; counted2 = x .3 }; walk-arg = x .4 }; walk-arg2 = x .5 }; walk = x .6 } in let s = begin t a in let n = entered t (entry t w) .0 in (
+    (λ x. let w : walk-lts.After-walk (calls t) (walk-at t) walk.Post Inv μ-loop = record { before = record { before = record { before = record { before = record { before = record { before = record { before = c .before; match = x .0 }; child = x .1 }; known-told3 = x .2 }; counted2 = x .3 }; lower = x .4 }; walk-arg = x .5 }; walk = x .6 } in let s = begin t a in let n = entered t (entry t w) .0 in (
       l .inv .0,
       l .inv .1,
       rw (x .15) (x .6 .ensures .2),

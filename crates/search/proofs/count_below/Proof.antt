@@ -24,7 +24,7 @@ count-passing-requires c κs =
     let e = c .before .before .before .before .before .before in
     let s = start e in
     let n = s .args .node in
-    let w = s .pre .parts .node in
+    let w = s .pre .node in
     let inner : 0 < n .level = omega (arith, two e) in
     let up : suc (n .level - 1) ≡ n .level = omega arith in
     record {
@@ -34,14 +34,13 @@ count-passing-requires c κs =
       above-leaves = omega (arith, two e);
       inside = w .inside;
       placed = node-placed w;
-      lowest = omega (arith, s .pre .parts .lowest);
+      lowest = omega (arith, s .pre .lowest);
       capped = λ x h.
           subst (λ (l : ℕ). streamReach (s .args .task .width) (s .args .limits .now) (n .level - 1) x ≤ getD (s .args .limits .now) (firstPlace l) 0) up
-          (s .pre .parts .limited .wider (n .level - 1) x (omega (arith, w .inside)) h);
-      size = s .pre .parts .limited .size;
-      widest = s .pre .parts .limited .widest (n .level - 2) (omega (arith, w .inside, two e));
-      measured = s .pre .parts .measured .size;
-      small = λ x h. rw (← s .pre .parts .measured .child (n .partial) x h) (omega (arith, kid-low w inner x));
+          (s .pre .limited .wider (n .level - 1) x (omega (arith, w .inside)) h);
+      size = s .pre .limited .size;
+      widest = s .pre .limited .widest (n .level - 2) (omega (arith, w .inside, two e));
+      small = λ x h. rw (← s .pre .measured .child (n .partial) x h) (omega (arith, kid-low w inner x));
     }
 
 returns-2 : tie.Need-returns-2
@@ -54,7 +53,7 @@ returns-2 c e =
       above-leaves = omega (arith, two t);
       counted =
           counted-by (a .task .streams) (a .task .width) (n .level) (n .bits) (a .kept .label) (boundsOf (a .kept .best) (a .limits .now) n) (a .numbers .now) (a .limits .now) _
-          (kidOf (a .task .streams) (a .task .width) (a .numbers .now) n) (λ x h. sym (s .pre .parts .measured .child (n .partial) x h)) (c .count-passing .ensures e);
+          (kidOf (a .task .streams) (a .task .width) (a .numbers .now) n) (λ x h. sym (s .pre .measured .child (n .partial) x h)) (c .count-passing .ensures e);
     }
 
 pub count-below-spec : {M : Type 1} → statement M

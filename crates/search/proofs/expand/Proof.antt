@@ -1,5 +1,5 @@
 -- The test says of each child that it would be cut, or the count is of all of them, or the keys are the children's partial metrics.
-use Prim.Native.Nat.{_*_, _-_, _≤_, _<_}
+use Prim.Native.Nat.{_*_, _-_}
 use mathlib.Core.Path.{refl}
 use native.Mathlib.Omega.{arith}
 use borrow.Author.Needs.{needs}
@@ -7,7 +7,6 @@ use borrow.Author.Tests.{not-true}
 use Rattle.metric.specs.Parts.{span}
 use Rattle.metric.specs.Rows.{Measured}
 use Rattle.metric.proofs.Filled.{zeros-small}
-use Rattle.search.specs.Expand.{PartsAsked}
 use Rattle.search.proofs.Kids.{filled-in}
 use Rattle.search.proofs.Search.{partial-few, row-inside}
 use Rattle.search.proofs.Values.{room-for}
@@ -28,12 +27,6 @@ parts : (c : tie.After-fill-parts)
     (c .fill-parts .last .1 .1 .1 .1 .1 .0)
 parts c = c .fill-parts .ensures (start (left c) .args .node .bits) (left c .remainder .ensures .0)
 
--- and what is asked by them can be
-asked : (c : tie.After-fill-parts)
-    → let s = start (left c) in
-    PartsAsked (s .args .task) (s .args .numbers .now) (s .args .node) (s .args .kept .best) (s .args .limits .now) (c .fill-parts .last .1 .1 .1 .1 .1 .0)
-asked c = let s = start (left c) in record { node = s .pre .node; limited = s .pre .limited; lowest = s .pre .lowest; measured = parts c }
-
 pub expand-spec : {M : Type 1} → statement M
 expand-spec =
     tie.close
@@ -53,12 +46,17 @@ expand-spec =
     (λ c. c .before .opens .ensures (not-true _ (c .if1 .taken)))
     (λ c κs. let r = c .before .before .before in let s = start r in
     (s .pre .node .asked .vector, s .pre .tabled, row-inside (s .pre .node) (s .pre .inner), r .remainder .ensures .1, r .remainder .ensures .2, refl, zeros-small (2 * span)))
-    (λ c κs. asked (c .before))
-    (λ c. c .before .leaves-shut .ensures (c .if2 .taken))
-    (λ c κs. let f = c .before .before .before .before in let s = start (left f) in record { parts = asked f; tabled = s .pre .tabled; pointed = s .pre .pointed })
-    (λ c. c .before .count-below .ensures (c .if3 .taken))
-    (λ c κs. let f = c .before .before .before .before .before .before .before .before in let s = start (left f) in
+    (λ c κs. let f = c .before in let s = start (left f) in record {
+      node = s .pre .node;
+      limited = s .pre .limited;
+      lowest = s .pre .lowest;
+      measured = parts f;
+      tabled = s .pre .tabled;
+      pointed = s .pre .pointed;
+    })
+    (λ c. c .before .count-below .ensures (c .if2 .taken))
+    (λ c κs. let f = c .before .before .before .before .before in let s = start (left f) in
     (s .pre .node .asked .vector .bits, omega (arith, partial-few (s .pre .node)), parts f .size, parts f .small, room-for (s .args .node .level) (s .args .task .width) (s .pre .inner) _ (s .pre .room)))
     (λ c. search needs)
-    (λ c. let f = c .before .before .before .before .before .before .before .before .before .before .before in let a = start (left f) .args in
+    (λ c. let f = c .before .before .before .before .before .before .before .before in let a = start (left f) .args in
     filled-in (a .task .streams) (a .task .width) (a .numbers .now) (a .node) (parts f) (c .before .before .fill .ensures)))

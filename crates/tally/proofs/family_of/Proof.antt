@@ -24,12 +24,17 @@ module _ (s : tie.Start) where
 
 returns : tie.Need-returns
 returns c =
-    let o = c .before .before in
-    let s = o .before .before .before .before .before .before .before .before in
+    let r = c .before in
+    let o = r .before .before in
+    let l = o .before .before .before in
+    let s = l .before .before .before .before .before in
+    let shared = l .before .before .larger .ensures in
     let level = s .args .level in
     let symbol : ℕ → ℕ = λ k. s .args .label / 2 ^ ((s .args .shape .streams - k) * s .args .shape .width) % 2 ^ s .args .shape .width in
-    let own : level ≡ suc (level - 1) = omega (arith, s .pre .0 .above-leaves) in
-    let next : level - 1 ≡ suc (level - 2) = omega (arith, s .pre .0 .above-leaves) in
+    let own : o .symbol-at .result ≡ symbol level = o .symbol-at .ensures in
+    let next : r .before .symbol-at2 .result ≡ symbol (level - 1) = r .before .symbol-at2 .ensures in
+    let one : level ≡ suc (level - 1) = omega (arith, s .pre .0 .above-leaves) in
+    let two : level - 1 ≡ suc (level - 2) = omega (arith, s .pre .0 .above-leaves) in
     record {
       streams-is = refl;
       width-is = refl;
@@ -37,12 +42,12 @@ returns c =
       bits-is = refl;
       partial-is = refl;
       low-is = refl;
-      base-is = omega arith;
-      cap-is = omega arith;
-      after-is = omega arith;
-      own-is = o .symbol-at .ensures ∙ ap symbol own;
-      next-is = c .before .symbol-at2 .ensures ∙ ap symbol next;
-      rest = c .rest-of .ensures;
+      base-is = omega (arith, shared, l .before .larger2 .ensures);
+      cap-is = omega (arith, l .larger3 .ensures);
+      after-is = omega (arith, shared, o .before .larger4 .ensures);
+      own-is = own ∙ ap symbol one;
+      next-is = next ∙ ap symbol two;
+      rest = r .rest-of .ensures;
     }
 
 pub family-of-spec : {M : Type 1} → statement M
@@ -65,5 +70,7 @@ family-of-spec =
     (λ c. search needs)
     (λ c. let s = c .before .before .before .before .before .before .before .before in omega (arith, next-few s))
     (λ c κs. let s = c .before .before .before .before .before .before .before .before in (s .pre .0 .vector .bits, omega (arith, next-few s)))
+    (λ c κs. search needs)
+    (λ c. search needs)
     (λ c κs. search needs)
     returns)

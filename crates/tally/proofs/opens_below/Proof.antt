@@ -1,10 +1,15 @@
--- What the test of a child's children asks, of the stream's entries as they stand in the array.
+-- What the two tests of a child's children ask, of the stream's entries as they stand in the array.
 use borrow.Author.Needs.{needs}
-use Prim.Native.Nat.{ℕ, _+_, _-_, _*_}
+use borrow.Author.Tests.{not-true}
+use Prim.Native.Nat.{ℕ, _+_, _-_, _*_, _≤_}
 use mathlib.Core.Path.{_≡_}
 use native.Mathlib.Omega.{arith}
 use lib.ListN.{length-take, length-drop}
 use Rattle.metric.specs.Parts.{span}
+use Rattle.cutoff.specs.Cut.{OpensAsked}
+use Rattle.cutoff.proofs.Parts.{parts-asked, parts-cut}
+use Rattle.reach.specs.Reach.{entriesOf}
+use Rattle.tally.proofs.Counting.{never}
 use Rattle.tally.proofs.opens_below.Statement.{statement}
 use Rattle.tally.proofs.opens_below.Tie as tie
 
@@ -12,28 +17,50 @@ use Rattle.tally.proofs.opens_below.Tie as tie
 lent : (at : ℕ) → at + 2 * span - at ≡ 2 * span
 lent at = omega arith
 
-opens-requires : tie.Need-opens-requires
-opens-requires c κs =
-    let s = c .before .before .before .before .before .before .before in
-    rw lent
-    (record {
-      vector = s .pre .0 .asked .vector;
-      tabled = s .pre .0 .tabled;
-      inside = omega (arith, s .pre .0 .asked .above-leaves, s .pre .0 .asked .inside);
-      low-re = c .before .before .left-at .ensures .1;
-      low-im = c .before .before .left-at .ensures .2;
-      low = s .pre .2;
-      stream =
-          simp (length-take, length-drop)
-          (omega (arith, s .pre .0 .size, s .pre .0 .asked .above-leaves, s .pre .0 .asked .inside, s .pre .0 .asked .vector .streams));
-      widest = s .pre .0 .widest;
-      symbol = s .pre .0 .next;
-    })
+-- The child's children
+module _ (c : tie.After-larger) where
+  abbrev start : tie.Start
+  start = c .before .before .before .before .before .before
+
+  -- What the test by the distances asks; that by the parts follows by the tables
+  asked : let a = start .args in
+      OpensAsked (a .family .shape .streams) (a .family .shape .width) (a .family .level - 2) (c .before .left-at .result .re)
+      (c .before .left-at .result .im) (a .d) (a .numbers .now) (entriesOf (a .limits .now) (a .family .level - 2)) (a .family .next)
+  asked =
+      let f = start .pre .0 in
+      record {
+        vector = f .asked .vector;
+        inside = omega (arith, f .asked .above-leaves, f .asked .inside);
+        low-re = c .before .left-at .ensures .1;
+        low-im = c .before .left-at .ensures .2;
+        low = start .pre .2;
+        stream =
+            simp (length-take, length-drop)
+            (omega (arith, f .size, f .asked .above-leaves, f .asked .inside, f .asked .vector .streams));
+        widest = f .widest;
+        symbol = f .next;
+      }
+
+  -- Their stream is one of the first three
+  low-stream : start .args .family .level - 2 ≤ 2
+  low-stream = let f = start .pre .0 in omega (arith, f .asked .inside, f .asked .vector .streams)
 
 returns : tie.Need-returns
 returns c e t h =
-    let k = c .before in
-    rw (k .before .larger .ensures, lent) at (c .opens .ensures e _ (k .before .before .left-at .ensures .0) t h)
+    let o = c .before in
+    let l = o .before .before in
+    rw (l .larger .ensures, lent) at (o .opens .ensures (not-true _ (c .if1 .taken)) _ (l .before .left-at .ensures .0) t h)
+
+opens-by-parts-requires : tie.Need-opens-by-parts-requires
+opens-by-parts-requires c κs =
+    let l = c .before .before .before .before .before .before in
+    rw lent (parts-asked (asked l) (start l .pre .0 .tabled))
+
+returns-3 : tie.Need-returns-3
+returns-3 c e =
+    let l = c .before .before .before .before .before .before .before in
+    let cut = rw (l .larger .ensures, lent) at (c .opens-by-parts .ensures e) in
+    parts-cut (asked l) (start l .pre .0 .tabled) _ cut _ (l .before .left-at .ensures .0)
 
 pub opens-below-spec : {M : Type 1} → statement M
 opens-below-spec =
@@ -50,5 +77,13 @@ opens-below-spec =
     (λ c. search needs)
     (λ c. search needs)
     (λ c. search needs)
-    opens-requires
-    returns)
+    (λ c κs. rw lent (asked (c .before)))
+    returns
+    (λ c e. absurd (never e))
+    (λ c. omega (arith, low-stream (c .before .before .before .before .before)))
+    (λ c. omega (arith, low-stream (c .before .before .before .before .before)))
+    (λ c. search needs)
+    (λ c. search needs)
+    (λ c. let l = c .before .before .before .before .before in omega (arith, low-stream l, start l .pre .0 .size))
+    opens-by-parts-requires
+    returns-3)
