@@ -1,12 +1,12 @@
 -- What the functions of the test ask and say of the parts of one axis.
 use Prim.Native.Nat.{ℕ, suc, _+_, _-_, _*_, _^_, _≤_, _<_}
 use mathlib.Core.Path.{_≡_}
+use mathlib.Core.Bool.{Bool, true, not, _||_}
 use mathlib.Core.List.{List}
 use lib.Bits.{bitXor}
+use lib.Dec.{eqb}
 use lib.IntN.{ℤ, pos, natAbs}
 use lib.ListN.{length, getD}
-use mathlib.Core.Bool.{Bool, true, not, _||_}
-use lib.Dec.{eqb}
 use Rattle.model.specs.Block.{mostEntry}
 use Rattle.metric.specs.Parts.{axisWidth, span, nearestOf, bitOf}
 use Rattle.metric.specs.Tables.{tableSize, axisPlace, axisBits, tablePart, AxisAsked}

@@ -24,7 +24,7 @@ pub record Beyond (q base : ℕ) (entries : List ℕ) (own d s : ℕ) : Type 0 w
   pub above-base : base ≤ d
   pub above-own : symbolReach q entries (bitXor s own) ≤ d
 
--- The entries of both axes are so: the widest is the last, and none is wider than its bits
+-- Of the entries of either axis the widest is the last, and none is wider than those of its single bits
 pub record Widest (q : ℕ) (entries : List ℕ) : Type 0 where
   pub real : WidestLast entries 0 (q - q / 2)
   pub imaginary : WidestLast entries span (q / 2)

@@ -39,7 +39,8 @@ fn least_opposite(negative: bool, bit: bool, low: u64, beyond: u64) -> u64
 }
 
 // Is a label of an axis of w bits, with `other` added to its squared distance, below the limit of a bit in which it differs from `own`? The
-// nearest label with a bit opposite to own's is the nearest of all, which comes to `low`, or else the first beyond the fold of that bit.
+// nearest label with a bit opposite to own's is the nearest of all, which comes to `low`, or else the first beyond the fold of that bit. A label
+// that differs in no bit has an entry too, the first; it is 0 once there is a best label, and before that nothing is known of it.
 fn any_bit(
     left: i64,
     diagonal: u64,
