@@ -1,9 +1,5 @@
 -- The search over numbers gives the model's answer, and the laws that code's proofs cite.
 pub mod Limits
-pub mod Renewed
-pub mod Leaves
-pub mod Rows
-pub mod Kids
 pub mod Levels
 pub mod Search
 pub mod Values

@@ -1,6 +1,6 @@
 -- A limit as one number says what the two bounds say together, and what the limits give decides the pass test.
-use Prim.Native.Nat.{ℕ, suc, _+_, _-_, _*_, _/_, _%_, _^_, _≤_, _<_, min, max}
-use mathlib.Core.Path.{_≡_, refl, sym, _∙_, ap, ap₂, subst}
+use Prim.Native.Nat.{ℕ, suc, _+_, _-_, _*_, _/_, _%_, _^_, _≤_, _<_, max}
+use mathlib.Core.Path.{_≡_, sym, _∙_, ap, ap₂, subst}
 use mathlib.Core.Bool.{Bool, true, false, cond, _&&_, _||_}
 use mathlib.Core.List.{List}
 use native.Mathlib.Decide.{decLt}
@@ -8,69 +8,27 @@ use native.Mathlib.Nat.{add-mul, mod-lt}
 use native.Mathlib.Omega.{arith}
 use lib.Bits.{bitXor, xor-lt}
 use lib.Dec.{leb, ltb}
-use borrow.Author.Tests.{lt-ltb, le-ltb, le-leb, lt-leb, ltb-true, ltb-false}
+use borrow.Author.Tests.{lt-ltb, le-ltb, le-leb, lt-leb}
 use lib.ListN.{length, getD, drop}
 use lib.Seq.{getD-take, getD-drop}
-use lib.IntN.{ℤ, pos, negsuc}
 use lib.Pow.{pow-pos, pow-mono}
-use lib.Signed.{ltZ}
-use Rattle.model.specs.Metric.{Vector, labelBits, priorAt}
+use Rattle.model.specs.Metric.{Vector, labelBits}
 use Rattle.model.specs.Block.{mostWidth}
 use Rattle.model.proofs.Lists.{any-upFrom}
 use Rattle.model.proofs.Numbers.{first-half}
 use Rattle.metric.specs.Parts.{axisWidth, span, bitOf}
-use Rattle.metric.specs.Tables.{Axis, axisBits}
 use Rattle.metric.specs.Tables.Axis.{real, imaginary}
-use Rattle.pruning.specs.Program.{above, Taken, opens, reachOf, reaches, lets, passing}
+use Rattle.pruning.specs.Program.{above, Taken, opens, lets, passing}
 use Rattle.pruning.specs.Reach.{widestOf}
 use Rattle.pruning.proofs.Reach.{ltb-max, any-widest, widest-split, widest-same}
 use Rattle.cutoff.specs.Cut.{symbolReach}
-use Rattle.reach.specs.Reach.{firstPlace, entryPlace, entriesOf, axisStart, axisReach, Reaches, streamReach, chosenReach, symbolOf}
+use Rattle.reach.specs.Reach.{firstPlace, entryPlace, entriesOf, Reaches, streamReach, chosenReach, symbolOf}
 use Rattle.metric.proofs.Opposite.{xor-opposite}
-use Rattle.reach.proofs.Passing.{entries-widest, stream-wider, chosen-is, chosen-child}
-use Rattle.search.specs.Limits.{upOf, limitAt, Limited, passesAt, passesBy, opposite, WouldCut}
-
-up-is : (d : ℕ) (z : ℤ) → ltZ (pos d) z ≡ ltb d (upOf z)
-unfolding upOf
-up-is d (pos n) = refl
-up-is d (negsuc n) = sym (le-ltb d 0 (omega arith))
-
-ltb-min : (d a b : ℕ) → ltb d (min a b) ≡ (ltb d a && ltb d b)
-ltb-min d a b = go (ltb d a) refl (ltb d b) refl
-  where
-    go : (x : Bool) → ltb d a ≡ x → (y : Bool) → ltb d b ≡ y → ltb d (min a b) ≡ (x && y)
-    go true e true f = lt-ltb d (min a b) (omega (arith, ltb-true d a e, ltb-true d b f))
-    go true e false f = le-ltb d (min a b) (omega (arith, ltb-false d b f))
-    go false e y f = le-ltb d (min a b) (omega (arith, ltb-false d a e))
-
--- Below a bit's limit is below both bounds
-reaches-limit : (v : Vector) (t : Taken) (d i : ℕ) → reaches v t d i ≡ ltb d (limitAt v t i)
-unfolding reaches limitAt
-reaches-limit v t d i =
-    let b = bitOf (labelBits v) (t .label) i in
-    let u = getD (cond b (t .zeros) (t .ones)) i 0 in
-    let z = reachOf b (t .best + v .clip) (priorAt v i) in
-    ap (λ (x : Bool). ltb d u && x) (up-is d z) ∙ sym (ltb-min d u (upOf z))
-
--- The limits decide what they give
-pub reaches-same : {q k : ℕ} {f g : ℕ → ℕ} {limits : List ℕ} → ((i : ℕ) → i < k * q → f i ≡ g i) → Reaches q f limits k → Reaches q g limits k
-unfolding axisReach
-reaches-same {q} {k} {f} {g} {limits} same r = record {
-  size = r .size;
-  own = λ i h. r .own i h ∙ same i h;
-  first = λ level h. r .first level h
-      ∙ widest-same _ _ f g 0 (level * q) (λ i _ l. same i (omega (arith, part level (k - level) (omega arith))));
-  entry = λ j h x e l. r .entry j h x e l
-      ∙ widest-same _ _ f g (axisStart q j x) (axisBits q x)
-      (λ i _ m. ap (λ (y : ℕ). cond (bitOf (axisBits q x) e (i - axisStart q j x)) y 0) (same i (omega (arith, part (j + 1) (k - (j + 1)) (omega arith), within j x))));
-}
-  where
-    part : (a b : ℕ) → k ≡ a + b → k * q ≡ a * q + b * q
-    part a b e = ap (λ (x : ℕ). x * q) e ∙ add-mul a b q
-
-    within : (j : ℕ) (x : Axis) → axisStart q j x + axisBits q x ≤ (j + 1) * q
-    within j real = omega (arith, add-mul j 1 q)
-    within j imaginary = omega (arith, add-mul j 1 q)
+use Rattle.reach.proofs.Passing.{chosen-is, chosen-child}
+use Rattle.leaves.specs.Limits.{limitAt, Limited}
+use Rattle.leaves.proofs.Limits.{reaches-limit}
+use Rattle.children.specs.Expand.{WouldCut}
+use Rattle.search.specs.Limits.{passesAt, passesBy, opposite}
 
 -- A stream's entries by themselves
 entries-reach : (q : ℕ) (limits : List ℕ) (j s : ℕ) → q ≤ mostWidth → s < 2 ^ q
@@ -93,18 +51,6 @@ entries-reach q limits j s few h =
     columns =
         let half : q / 2 ≤ axisWidth = omega arith in
         omega (arith, mod-lt s (pow-pos (q / 2)), pow-mono half)
-
--- An array that has what the limits give may be lent where limits are asked
-pub reached-limited : {v : Vector} {t : Taken} {limits : List ℕ} → v .width ≤ mostWidth
-    → Reaches (v .width) (limitAt v t) limits (length (v .rows)) → Limited v t limits
-reached-limited few made = record {
-  asked = record {
-    size = made .size;
-    widest = λ j h. entries-widest made j h few;
-    wider = λ j s h l. stream-wider made j s h l;
-  };
-  exact = λ _. made;
-}
 
 -- The pass test by such an array
 module _ (v : Vector) (t : Taken) (limits : List ℕ) (m : ℕ) (em : m ≡ length (v .rows))

@@ -13,7 +13,7 @@ use Rattle.block.specs.Reading.{vectorSize, countAt, readWhole, got, into}
 use Rattle.block.specs.Contents.{vectorNumbers, blockOf}
 use Rattle.block.specs.declared.Read.the-variants.{Ended}
 use Rattle.block.proofs.Lent.{AllPlaced, vectors-fit, lent-room, lent-in-range, lent-placed}
-use Rattle.search.specs.Limits.{vectorAt, SearchAsked}
+use Rattle.leaves.specs.Limits.{vectorAt, SearchAsked}
 use Rattle.search.specs.Values.{Answered}
 use Rattle.search.specs.Holds.{Holds}
 

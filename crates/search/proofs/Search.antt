@@ -1,5 +1,5 @@
 -- The search below a node by its steps: the state before a child is tried, and what a turn makes of it.
-use Prim.Native.Nat.{ℕ, suc, _+_, _-_, _*_, _^_, _≤_, _<_, max}
+use Prim.Native.Nat.{ℕ, _+_, _-_, _*_, _^_, _≤_, _<_, max}
 use mathlib.Core.Path.{_≡_, refl, sym, _∙_, ap, ap₂, subst}
 use mathlib.Core.Bool.{Bool, true, false}
 use mathlib.Core.List.{List, _++_}
@@ -11,14 +11,12 @@ use lib.ListN.{length, getD, set, take, drop, take-append-drop}
 use lib.IntN.{ℤ}
 use Rattle.model.specs.Metric.{Vector}
 use Rattle.block.proofs.Places.{rows-count}
-use Rattle.model.specs.Block.{mostWidth, mostBits}
-use Rattle.metric.specs.Rows.{childOf as rowKey}
+use Rattle.model.specs.Block.{mostWidth}
 use Rattle.pruning.specs.Arrays.{leastFirst}
-use Rattle.pruning.specs.Program.{mostChildren, above, largestPartial, Ranged, Taken, Kept, keptOf, passing, noted, chosen, keyOf, childOf, testOf, below, restOf}
+use Rattle.pruning.specs.Program.{above, largestPartial, Taken, Kept, keptOf, passing, noted, chosen, keyOf, childOf, testOf, below, restOf}
 use Rattle.pruning.specs.Counted.{countedTo, Idle}
 use Rattle.pruning.proofs.Arrays.{Same, Held, held-least, held-set, held-same, same-part}
-use Rattle.pruning.proofs.Answer.{few-children}
-use Rattle.pruning.proofs.Bounds.{kept-falls, chosen-by, symbol-inside, key-bound, keys-held, partial-low, child-placed, child-by}
+use Rattle.pruning.proofs.Bounds.{kept-falls, symbol-inside, key-bound, keys-held, partial-low, child-placed, child-by}
 use Rattle.pruning.proofs.Turns.{rest-start, rest-same, rest-done, rest-cut, rest-halted, rest-stopped, rest-onward}
 use Rattle.pruning.proofs.Early.{rest-beyond, below-shut}
 use Rattle.pruning.proofs.Counted.{count-same, below-counted}
@@ -26,12 +24,14 @@ use Rattle.siblings.specs.Rows.{keyCount, RowLeast, Took}
 use Rattle.siblings.proofs.Rows.{row-least-front}
 use Rattle.siblings.proofs.Taking.{took-same}
 use Rattle.tally.specs.Tally.{oppositeReach, childPasses}
-use Rattle.search.specs.Limits.{vectorAt, passesAt, passesBy, opposite, LimitsAsked, Limited}
-use Rattle.search.specs.Expand.{NodeIn, kidOf, Shut, boundsOf, BelowCounted, Filled}
+use Rattle.leaves.specs.Limits.{vectorAt, LimitsAsked, Limited}
+use Rattle.search.specs.Limits.{passesAt, opposite}
 use Rattle.search.specs.Turn.{behind, NextAsked, nextOf, NodeAsked, Renewal}
-use Rattle.search.specs.declared.Node.{Node}
-use Rattle.search.proofs.Rows.{ranged, key-by}
-use Rattle.search.proofs.Values.{rest-few, keys-rise, room-for, room-below}
+use Rattle.children.specs.Expand.{NodeIn, kidOf, Shut, boundsOf, BelowCounted, Filled}
+use Rattle.children.specs.declared.Node.{Node}
+use Rattle.children.proofs.Rows.{key-by}
+use Rattle.children.proofs.Nodes.{keys-rise, room-for, in-range, within, chosen-few, node-placed, level-up, some, row-inside, kid-low}
+use Rattle.search.proofs.Values.{room-below}
 use Rattle.search.proofs.Limits.{passing-by, child-reach, would-cut}
 
 -- Before a child is tried, `tried` of them were: `whole`, what the search below the node comes to, is what is left to make of k. The keys
@@ -57,30 +57,9 @@ module _ {m q clip : ℕ} {numbers : List ℤ} {n : Node} (w : NodeIn m q clip n
   streams : length (v .rows) ≡ m
   streams = rows-count m q numbers
 
-  pub in-range : Ranged v
-  in-range = ranged m q clip numbers (w .asked)
-
-  pub within : n .level ≤ length (v .rows)
-  within = omega (arith, streams, w .inside)
-
-  -- The sizes that the code computes with
-  pub kids-few : 2 ^ q ≤ mostChildren
-  kids-few = few-children v in-range
-
+  -- The places of its keys are few
   pub places-few : keyCount q ≤ keyCount mostWidth
   places-few = keys-rise (w .asked .vector .bits)
-
-  pub partial-under : n .partial < above
-  partial-under = lt-of-le-of-lt (w .bounded) (partial-low v in-range (n .level))
-
-  pub partial-few : n .partial ≤ above
-  partial-few = le-of-lt partial-under
-
-  pub chosen-few : (m - n .level) * q ≤ mostBits
-  chosen-few = rest-few (n .level) (w .asked .vector)
-
-  pub node-placed : n .bits < 2 ^ ((m - n .level) * q)
-  node-placed = subst (λ (x : ℕ). n .bits < 2 ^ x) (chosen-by v m (n .level) (sym streams)) (w .placed)
 
   pub limits-asked : (t : Taken) (limits : List ℕ) → Limited v t limits → LimitsAsked m q limits
   limits-asked t limits limited = subst (λ (k : ℕ). LimitsAsked k q limits) streams (limited .asked)
@@ -93,21 +72,6 @@ module _ {m q clip : ℕ} {numbers : List ℤ} {n : Node} (w : NodeIn m q clip n
 
   -- Another node
   module _ (inner : 0 < n .level) where
-    pub level-up : n .level ≡ suc (n .level - 1)
-    level-up = omega arith
-
-    pub some : n .level ≡ 0 → ⊥
-    some e = absurd (omega arith)
-
-    pub row-inside : n .level - 1 < m
-    row-inside = omega (arith, w .inside)
-
-    -- No child's partial metric is above the sentinel
-    pub kid-low : (s : ℕ) → kidOf m q numbers n s ≤ above
-    kid-low s =
-        rw (key-by m q numbers (w .asked .vector) clip (n .level - 1) (n .bits) (n .partial) s row-inside)
-        (le-of-lt (lt-of-le-of-lt (key-bound v (n .level) some within in-range (n .partial) (w .bounded) (n .bits) s) (partial-low v in-range (n .level - 1))))
-
     -- All children would be cut: the search below the node changes nothing
     module _ (t : Taken) (limits : List ℕ) (limited : Limited v t limits)
         (opposed : n .chosen ≡ opposite m q limits (t .label) (n .level) (n .bits)) where
@@ -115,18 +79,18 @@ module _ {m q clip : ℕ} {numbers : List ℤ} {n : Node} (w : NodeIn m q clip n
           → keptOf count stopped t ≡ below v allowance (n .level) (n .bits) (n .partial) (keptOf count false t)
       shut allowance cuts count stopped f =
           ap (λ (x : Bool). keptOf count x t) f
-          ∙ sym (ap (λ (l : ℕ). below v allowance l (n .bits) (n .partial) (keptOf count false t)) level-up
+          ∙ sym (ap (λ (l : ℕ). below v allowance l (n .bits) (n .partial) (keptOf count false t)) (level-up w inner)
           ∙ below-shut v allowance (n .level - 1) (n .bits) (n .partial) (keptOf count false t)
-          (λ s h. le-of-lt (lt-of-le-of-lt (key-bound v (n .level) some within in-range (n .partial) (w .bounded) (n .bits) s) (partial-low v in-range (n .level - 1))))
+          (λ s h. le-of-lt (lt-of-le-of-lt (key-bound v (n .level) (some w inner) (within w) (in-range w) (n .partial) (w .bounded) (n .bits) s) (partial-low v (in-range w) (n .level - 1))))
           fails)
         where
           fails : (s : ℕ) → s < 2 ^ q
               → passing v t (keyOf v (n .level - 1) (n .bits) (n .partial) s) ((n .level - 1) * q) (childOf v (n .level - 1) (n .bits) s) ≡ false
           fails s h =
-              let e = child-by v (n .level) some within m (n .bits) s (s * 2 ^ ((m - n .level) * q) + n .bits) (sym streams) refl in
-              rw (← key-by m q numbers (w .asked .vector) clip (n .level - 1) (n .bits) (n .partial) s row-inside, ← e)
-              (would-cut v t limits limited m (sym streams) (n .level) (n .bits) s _ some (w .inside) node-placed (w .asked .vector .bits) h
-              (n .chosen) opposed (cuts s h) (kid-low s))
+              let e = child-by v (n .level) (some w inner) (within w) m (n .bits) s (s * 2 ^ ((m - n .level) * q) + n .bits) (sym streams) refl in
+              rw (← key-by m q numbers (w .asked .vector) clip (n .level - 1) (n .bits) (n .partial) s (row-inside w inner), ← e)
+              (would-cut v t limits limited m (sym streams) (n .level) (n .bits) s _ (some w inner) (w .inside) (node-placed w) (w .asked .vector .bits) h
+              (n .chosen) opposed (cuts s h) (kid-low w inner s))
 
     -- Before the first child, with the keys of all
     pub start : (t : Taken) (limits : List ℕ) → t .best ≤ above → Limited v t limits
@@ -136,7 +100,7 @@ module _ {m q clip : ℕ} {numbers : List ℤ} {n : Node} (w : NodeIn m q clip n
         (keptOf count stopped t) limits
     start t limits lowest limited opposed allowance keys wide filled count stopped f =
         let g : (s : ℕ) → s < 2 ^ q → getD keys s 0 ≡ keyOf v (n .level - 1) (n .bits) (n .partial) s =
-        λ s h. filled .each s h ∙ key-by m q numbers (w .asked .vector) clip (n .level - 1) (n .bits) (n .partial) s row-inside
+        λ s h. filled .each s h ∙ key-by m q numbers (w .asked .vector) clip (n .level - 1) (n .bits) (n .partial) s (row-inside w inner)
         in
         record {
           node = w;
@@ -145,9 +109,9 @@ module _ {m q clip : ℕ} {numbers : List ℤ} {n : Node} (w : NodeIn m q clip n
           rows = filled .rows;
           lowest = lowest;
           running = f;
-          held = keys-held v (n .level) some within in-range (n .partial) (w .bounded) (n .bits) keys g;
+          held = keys-held v (n .level) (some w inner) (within w) (in-range w) (n .partial) (w .bounded) (n .bits) keys g;
           left = rw f
-              (rest-start v (2 ^ q) refl allowance (n .bits) (n .level) some (n .partial) keys (omega (arith, room-for (n .level) q inner (length keys) wide)) g (keptOf count false t));
+              (rest-start v (2 ^ q) refl allowance (n .bits) (n .level) (some w inner) (n .partial) keys (omega (arith, room-for (n .level) q inner (length keys) wide)) g (keptOf count false t));
           limited = limited;
           opposed = opposed;
         }

@@ -1,6 +1,5 @@
 -- The search over numbers, against which code is proved.
 pub mod Limits
-pub mod Expand
 pub mod Turn
 pub mod Values
 pub mod Holds

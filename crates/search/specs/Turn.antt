@@ -14,11 +14,12 @@ use Rattle.pruning.specs.Program.{above, Taken}
 use Rattle.reach.specs.Reach.{limitsSize}
 use Rattle.siblings.specs.Rows.{keyCount, RowLeast, Took}
 use Rattle.tally.specs.Tally.{oppositeReach}
-use Rattle.search.specs.Limits.{vectorAt, LimitsAsked, Limited, passesAt, opposite}
-use Rattle.search.specs.Expand.{NodeIn, Shut, BelowCounted, Filled}
+use Rattle.leaves.specs.Limits.{vectorAt, LimitsAsked, Limited}
+use Rattle.search.specs.Limits.{passesAt, opposite}
+use Rattle.children.specs.Expand.{NodeIn, Shut, BelowCounted, Filled}
 use Rattle.search.specs.declared.Task.{Task}
-use Rattle.search.specs.declared.Node.{Node}
-use Rattle.search.specs.declared.Kept.{Kept}
+use Rattle.children.specs.declared.Node.{Node}
+use Rattle.leaves.specs.declared.Kept.{Kept}
 use Rattle.search.specs.declared.Turn.{Turn}
 use Rattle.search.specs.declared.Turn.the-variants.{Ended, Cut, Stop, Left, Leaf, Enter}
 

@@ -17,7 +17,8 @@ ghost use lib.ListN.{length};
 ghost use Rattle.block.specs.Reading.{countAt};
 ghost use Rattle.block.specs.Contents.{vectorNumbers};
 ghost use Rattle.constellation.specs.Points.{Points};
-ghost use Rattle.search.specs.Limits.{vectorAt, keyPlaces};
+ghost use Rattle.leaves.specs.Limits.{vectorAt};
+ghost use Rattle.search.specs.Limits.{keyPlaces};
 ghost use Rattle.search.specs.Values.{Answered};
 ghost use Rattle.search.specs.Holds.{Holds};
 

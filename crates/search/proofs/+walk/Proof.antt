@@ -15,14 +15,15 @@ use Rattle.metric.proofs.Shifts.{one-shifted}
 use Rattle.pruning.specs.Program.{Kept, takenIn, limitsOf, keptOf, noted, below}
 use Rattle.pruning.proofs.Minima.{limits-part, limits-length}
 use Rattle.siblings.specs.Rows.{keyCount}
-use Rattle.search.specs.Limits.{vectorFor, minimaSize}
-use Rattle.search.specs.Expand.{Filled}
+use Rattle.leaves.specs.Limits.{minimaSize}
+use Rattle.search.specs.Limits.{vectorFor}
+use Rattle.children.specs.Expand.{Filled}
 use Rattle.search.specs.Turn.{behind, nextOf, AdvanceAsked, Advanced, Renewal, NodeAsked}
-use Rattle.search.specs.declared.Node.{Node}
+use Rattle.children.specs.declared.Node.{Node}
 use Rattle.search.specs.declared.Turn.{Turn}
 use Rattle.search.specs.declared.Turn.the-variants.{Ended, Cut, Stop, Left, Leaf, Enter}
-use Rattle.search.proofs.Values.{room-for}
-use Rattle.search.proofs.Search.{Searching, partial-under, leaf-noted, kids-few, places-few, start, limits-asked, next-asked}
+use Rattle.children.proofs.Nodes.{room-for, partial-under, kids-few}
+use Rattle.search.proofs.Search.{Searching, leaf-noted, places-few, start, limits-asked, next-asked}
 use Rattle.search.proofs.Search.{done, ended, halts, cut, left, past, child-asked, child-in, stops, onward, onward-here}
 use Rattle.search.proofs.walk.Reads as walk
 use Rattle.search.proofs.walk.Kinds as walk-kinds

@@ -1,5 +1,5 @@
 -- Each answer is one case of the definition: the node's own test, then the child's, the allowance, and what is found of the child's children.
-use Prim.Native.Nat.{ℕ, _+_, _-_, _*_, _≤_, _<_, _^_}
+use Prim.Native.Nat.{ℕ, _-_, _≤_, _<_, _^_}
 use mathlib.Core.Path.{_≡_, refl, sym, _∙_, ap, subst}
 use mathlib.Core.List.{List}
 use mathlib.Core.Logic.{inl, inr}
@@ -9,17 +9,16 @@ use borrow.Author.Tests.{not-true, not-false}
 use borrow.Rule.Slice.PartMut.{putMid}
 use lib.ListN.{length, take, drop}
 use Rattle.pruning.specs.Arrays.{leastFirst}
-use Rattle.pruning.proofs.Arrays.{part-length}
 use Rattle.siblings.specs.Rows.{keyCount, Took}
-use Rattle.model.specs.Block.{mostWidth}
-use Rattle.search.specs.Limits.{passesAt}
-use Rattle.search.specs.Expand.{ExpandAsked, Expanded}
+use Rattle.search.specs.Limits.{sizesOf, passesAt}
+use Rattle.children.specs.Expand.{ExpandAsked, Expanded}
 use Rattle.search.specs.Turn.{behind, nextOf, Counts}
-use Rattle.search.specs.declared.Node.{Node}
-use Rattle.search.specs.declared.Children.{Children}
-use Rattle.search.specs.declared.Children.the-variants.{Nothing, Number, Keys}
+use Rattle.children.specs.declared.Node.{Node}
+use Rattle.children.specs.declared.Children.{Children}
+use Rattle.children.specs.declared.Children.the-variants.{Nothing, Number, Keys}
 use Rattle.search.proofs.Levels.{withLower, lower-behind, lower-took}
-use Rattle.search.proofs.Values.{keys-rise, room-for, room-below}
+use Rattle.children.proofs.Nodes.{keys-rise, room-for}
+use Rattle.search.proofs.Values.{room-below}
 use Rattle.search.proofs.advance.Statement.{statement}
 use Rattle.search.proofs.advance.Tie as tie
 
@@ -76,13 +75,15 @@ inner c = omega (arith, ap (λ (x : Node). x .level) (known c .next-child .ensur
 
 expand-requires : tie.Need-expand-requires
 expand-requires c κs =
-    let p = c .before in
+    let z = c .before in
+    let p = z .before in
     let n = known p in
     let s = start n in
     let a = s .args in
     let is = n .next-child .ensures .is in
     let many = ap (λ (x : ℕ). length (take (length (taken n) - x) (drop x (taken n)))) (places p) in
-    subst (λ (x : Node). ExpandAsked (a .task) (a .points .now) (a .numbers .now) (a .tables .now) x (a .kept .best) (a .limits .now)
+    rw (z .sizes-of .ensures)
+    (subst (λ (x : Node). ExpandAsked (sizesOf (a .task)) (a .points .now) (a .numbers .now) (a .tables .now) x (a .kept .best) (a .limits .now)
     (take (length (taken n) - p .key-places .result) (drop (p .key-places .result) (taken n)))) (sym is)
     (record {
       node = s .pre .child;
@@ -97,7 +98,7 @@ expand-requires c κs =
             room-below (a .node .level) (a .task .width) (s .pre .next .inner) (taken n) (omega (arith, s .pre .room, n .next-child .ensures .took .size)),
             many,
           );
-    })
+    }))
 
 -- The keys behind the node's own after the child's children were looked at
 abbrev lower : tie.After-expand → List ℕ
@@ -105,7 +106,7 @@ lower c = c .expand .last .1 .1 .1 .1 .1 .1 .1 .0
 
 module _ (c : tie.After-expand) where
   abbrev p : tie.After-key-places
-  p = c .before .before
+  p = c .before .before .before
 
   abbrev n : tie.After-next-child
   n = known p
@@ -138,7 +139,7 @@ module _ (c : tie.After-expand) where
       (subst (λ (x : Node). Expanded (a .task .streams) (a .task .width) (a .numbers .now) x (a .kept .label) (a .kept .best) (a .limits .now) (lower c) r)
       (n .next-child .ensures .is)
       (subst (λ (x : Children). Expanded (a .task .streams) (a .task .width) (a .numbers .now) (n .next-child .result) (a .kept .label) (a .kept .best) (a .limits .now) (lower c) x)
-      e (c .expand .ensures)))
+      e (rw (c .before .before .sizes-of .ensures) at (c .expand .ensures))))
 
 pub advance-spec : {M : Type 1} → statement M
 advance-spec =
@@ -161,9 +162,10 @@ advance-spec =
     (λ c. let e = c .before .before in let n = e .before .before .before .before .before .before .before in let is = n .next-child .ensures .is in
     (counts e (taken n) (n .next-child .ensures .took), is, omega (arith, ap (λ (x : Node). x .level) is, c .if4 .taken)))
     (λ c κs. start (c .before .before .before .before .before .before .before .before .before) .pre .next .bits)
-    (λ c. let s = start (known c) in omega (arith, places c, keys-rise (s .pre .next .bits)))
-    (λ c. omega (arith, places c, wide (known c)))
-    (λ c. omega (arith, places c, wide (known c)))
+    (λ c κs. search needs)
+    (λ c. let p = c .before in let s = start (known p) in omega (arith, places p, keys-rise (s .pre .next .bits)))
+    (λ c. let p = c .before in omega (arith, places p, wide (known p)))
+    (λ c. let p = c .before in omega (arith, places p, wide (known p)))
     (λ c. search needs)
     expand-requires
     (λ c. c .match .keys1)

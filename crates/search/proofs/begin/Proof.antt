@@ -1,14 +1,13 @@
 -- The keys of the root's children are their partial metrics, and the walk of the root is the search below it.
-use Prim.Native.Nat.{_*_, _-_, _≤_, _<_}
-use mathlib.Core.Path.{refl, sym, _∙_}
+use Prim.Native.Nat.{_*_, _-_}
+use mathlib.Core.Path.{refl}
 use native.Mathlib.Omega.{arith}
 use borrow.Author.Needs.{needs}
 use Rattle.metric.specs.Parts.{span}
 use Rattle.metric.specs.Rows.{Measured}
 use Rattle.metric.proofs.Filled.{zeros-small}
-use Rattle.search.proofs.Kids.{filled-in}
-use Rattle.search.proofs.Search.{partial-few, row-inside}
-use Rattle.search.proofs.Values.{room-for}
+use Rattle.children.proofs.Kids.{filled-in}
+use Rattle.children.proofs.Nodes.{room-for, partial-few, row-inside}
 use Rattle.search.proofs.begin.Statement.{statement}
 use Rattle.search.proofs.begin.Tie as tie
 

@@ -1,10 +1,8 @@
 -- The sum is taken in a wider type, and what is above the allowance is not counted.
 use mathlib.Core.Path.{sym}
-use Prim.Native.Nat.{_+_, _≤_, _<_}
 use borrow.Author.Needs.{needs}
 use borrow.Author.Tests.{lt-ltb, le-ltb}
 use native.Mathlib.Nat.{min-eq-left, min-eq-right, le-of-lt}
-use native.Mathlib.Omega.{arith}
 use mathlib.Core.Path.{refl}
 use Rattle.search.proofs.counted_with.Statement.{statement}
 use Rattle.search.proofs.counted_with.Tie as tie

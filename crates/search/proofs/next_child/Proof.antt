@@ -1,6 +1,6 @@
 -- The first of the smallest keys, its symbol in front of the node's bits; what the symbol's bits give beside what the node's give.
 use Prim.Native.Nat.{ℕ, suc, _+_, _-_, _*_, _/_, _%_, _<_, _^_, max}
-use mathlib.Core.Path.{_≡_, refl, sym, ap, ap₂, subst, _∙_}
+use mathlib.Core.Path.{_≡_, refl, ap, ap₂, subst, _∙_}
 use mathlib.Core.List.{List}
 use borrow.Author.Needs.{needs}
 use native.Mathlib.Nat.{mod-lt}
@@ -8,13 +8,12 @@ use native.Mathlib.Omega.{arith}
 use lib.Bits.{bitXor, xor-lt}
 use lib.ListN.{getD}
 use lib.Pow.{pow-mono, pow-pos}
-use Rattle.model.specs.Block.{mostWidth}
 use Rattle.pruning.specs.Arrays.{leastFirst}
 use Rattle.pruning.proofs.Bounds.{symbol-inside}
 use Rattle.reach.specs.Reach.{streamReach, symbolOf}
 use Rattle.siblings.specs.Rows.{Took}
-use Rattle.search.specs.Turn.{nextOf, NextChild}
-use Rattle.search.specs.declared.Node.{Node}
+use Rattle.search.specs.Turn.{NextChild}
+use Rattle.children.specs.declared.Node.{Node}
 use Rattle.search.proofs.next_child.Statement.{statement}
 use Rattle.search.proofs.next_child.Tie as tie
 

@@ -25,15 +25,17 @@ walked c = c .begin .ensures .0
 
 write-soft-requires : tie.Need-write-soft-requires
 write-soft-requires c κs =
-    let w = c .before .before .before .before .before in
+    let z = c .before .before in
+    let w = z .before .before .before .before in
     let s = w .before .before .before .before .before .before .before in
-    (s .pre .0, end-low (s .pre .0) (s .args .task .allowance) (walked w), w .begin .ensures .1)
+    rw (z .sizes-of .ensures) (s .pre .0, end-low (s .pre .0) (s .args .task .allowance) (walked w), w .begin .ensures .1)
 
 returns : tie.Need-returns
 returns c =
-    let w = c .before .before .before .before .before .before in
+    let z = c .before .before .before in
+    let w = z .before .before .before .before in
     let s = w .before .before .before .before .before .before .before in
-    end-answered (s .pre .0) (s .args .task .allowance) (walked w) _ _ (s .pre .1) (c .write-soft .ensures)
+    end-answered (s .pre .0) (s .args .task .allowance) (walked w) _ _ (s .pre .1) (rw (z .sizes-of .ensures) at (c .write-soft .ensures))
 
 pub search-vector-spec : {M : Type 1} → statement M
 search-vector-spec =
@@ -42,6 +44,7 @@ search-vector-spec =
     (λ c κs. search needs)
     (λ c. search needs)
     begin-requires
+    (λ c κs. search needs)
     (λ c. search needs)
     write-soft-requires
     (λ c. search needs)

@@ -1,0 +1,2 @@
+-- A node, and what is found of its children.
+pub mod Expand

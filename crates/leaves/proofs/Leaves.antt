@@ -1,0 +1,120 @@
+-- A leaf is taken: its metric lowers the minima of its bits, each on its side; then the limits behind them are renewed, or lowered like these.
+use Prim.Native.Nat.{ℕ, _+_, _*_, _<_, _≤_, min}
+use mathlib.Core.Path.{_≡_, refl, sym, _∙_, ap}
+use mathlib.Core.Bool.{Bool, true, false, cond, _&&_, _||_, Bool·beq, true≢false}
+use mathlib.Core.List.{List}
+use native.Mathlib.Omega.{arith}
+use lib.Dec.{ltb, eqb}
+use borrow.Author.Tests.{ltb-true, ltb-false, eqb-true}
+use lib.ListN.{getD, set, take, drop, length-set}
+use lib.Seq.{take-set-lt, take-set-le, drop-set-lt, drop-set-add, getD-drop}
+use Rattle.model.specs.Block.{mostBits}
+use Rattle.model.specs.Metric.{Vector, labelBits}
+use Rattle.metric.specs.Parts.{bitOf, filled}
+use Rattle.pruning.specs.Program.{takenOf, takenIn, zerosOf, onesOf, limitsOf, loweredAt, sooner, noted}
+use Rattle.pruning.proofs.Minima.{zero-at, one-at}
+use Rattle.pruning.proofs.Steps.{lowered-hit, lowered-miss}
+use Rattle.leaves.specs.Limits.{minimumPlace, NotedTo, NarrowedTo, Renewed}
+
+module _ (n label d : ℕ) (old : List ℕ) where
+  -- Before the first bit nothing is lowered
+  pub none-noted : NotedTo n label d 0 old old
+  unfolding filled
+  none-noted = record { size = refl; zeros = refl; ones = refl }
+
+  -- One bit more lowers its minimum on its side, and leaves the other side
+  one-more : (new : List ℕ) (i : ℕ) → i < mostBits → NotedTo n label d i old new → (bit : Bool) → bit ≡ bitOf n label i
+      → NotedTo n label d (i + 1) old (set new (minimumPlace bit i) (min d (getD new (minimumPlace bit i) 0)))
+  one-more new i h before false e =
+      let is : (x : Bool) → Bool·beq (bitOf n label i) x ≡ Bool·beq false x = λ x. ap (λ (b : Bool). Bool·beq b x) (sym e) in
+      let u = min d (getD new i 0) in record {
+        size = length-set new i u ∙ before .size;
+        zeros = take-set-lt mostBits new i u h ∙ ap (λ (x : ℕ). set (zerosOf new) i (min d x)) (zero-at new i h)
+            ∙ lowered-hit n false label d (zerosOf old) (zerosOf new) i (before .zeros) (is false);
+        ones = ap (take mostBits) (drop-set-lt mostBits new i u h)
+            ∙ lowered-miss n true label d (onesOf old) (onesOf new) i (before .ones) (is true);
+      }
+  one-more new i h before true e =
+      let is : (x : Bool) → Bool·beq (bitOf n label i) x ≡ Bool·beq true x = λ x. ap (λ (b : Bool). Bool·beq b x) (sym e) in
+      let u = min d (getD new (mostBits + i) 0) in record {
+        size = length-set new (mostBits + i) u ∙ before .size;
+        zeros = take-set-le mostBits new (mostBits + i) u (omega arith)
+            ∙ lowered-miss n false label d (zerosOf old) (zerosOf new) i (before .zeros) (is false);
+        ones = ap (take mostBits) (drop-set-add mostBits new i u) ∙ take-set-lt mostBits (drop mostBits new) i u h
+            ∙ ap (λ (x : ℕ). set (onesOf new) i (min d x)) (one-at new i h)
+            ∙ lowered-hit n true label d (onesOf old) (onesOf new) i (before .ones) (is true);
+      }
+
+  -- The same, at the place that the loop has and with what it leaves there
+  pub one-noted : {new after : List ℕ} {i at : ℕ} {bit : Bool} → i < mostBits → NotedTo n label d i old new → bit ≡ bitOf n label i
+      → at ≡ minimumPlace bit i → after ≡ set new at (min d (getD new at 0)) → NotedTo n label d (i + 1) old after
+  one-noted h before e place lowered = rw (lowered, place) (one-more _ _ h before _ e)
+
+-- The same with the limits of the bits that are 1 in a number
+module _ (n label opposed d : ℕ) (old : List ℕ) where
+  pub none-narrowed : NarrowedTo n label opposed d 0 old old
+  unfolding filled
+  none-narrowed = record { sides = none-noted n label d old; limits = refl }
+
+  module _ {new mid : List ℕ} {i at : ℕ} {bit : Bool} (h : i < mostBits) (before : NarrowedTo n label opposed d i old new)
+      (e : bit ≡ bitOf n label i) (place : at ≡ minimumPlace bit i) (side : at < 2 * mostBits)
+      (lowered : mid ≡ set new at (min d (getD new at 0))) where
+    noted-mid : NotedTo n label d (i + 1) old mid
+    noted-mid = one-noted n label d old h (before .sides) e place lowered
+
+    -- A side's minimum is not one of the limits
+    limits-mid : limitsOf mid ≡ filled (loweredAt n true opposed d (limitsOf old)) i (limitsOf old)
+    limits-mid = ap limitsOf lowered ∙ drop-set-lt (2 * mostBits) new at (min d (getD new at 0)) side ∙ before .limits
+
+    -- nor a limit one of the minima
+    noted-after : (u : ℕ) → NotedTo n label d (i + 1) old (set mid (2 * mostBits + i) u)
+    noted-after u = record {
+      size = length-set mid (2 * mostBits + i) u ∙ noted-mid .size;
+      zeros = take-set-le mostBits mid (2 * mostBits + i) u (omega arith) ∙ noted-mid .zeros;
+      ones =
+          let at-ones : 2 * mostBits + i ≡ mostBits + (mostBits + i) = omega arith in
+          ap (λ (p : ℕ). onesOf (set mid p u)) at-ones ∙ ap (take mostBits) (drop-set-add mostBits mid (mostBits + i) u)
+          ∙ take-set-le mostBits (drop mostBits mid) (mostBits + i) u (omega arith) ∙ noted-mid .ones;
+    }
+
+    after-is : (asked : Bool) → asked ≡ bitOf n opposed i
+        → NarrowedTo n label opposed d (i + 1) old (cond asked (set mid (2 * mostBits + i) (min d (getD mid (2 * mostBits + i) 0))) mid)
+    after-is true f = record {
+      sides = noted-after (min d (getD mid (2 * mostBits + i) 0));
+      limits = drop-set-add (2 * mostBits) mid i (min d (getD mid (2 * mostBits + i) 0))
+          ∙ ap (λ (x : ℕ). set (limitsOf mid) i (min d x)) (sym (getD-drop (2 * mostBits) mid i 0))
+          ∙ lowered-hit n true opposed d (limitsOf old) (limitsOf mid) i limits-mid (ap (λ (b : Bool). Bool·beq b true) (sym f));
+    }
+    after-is false f = record {
+      sides = noted-mid;
+      limits = lowered-miss n true opposed d (limitsOf old) (limitsOf mid) i limits-mid (ap (λ (b : Bool). Bool·beq b true) (sym f));
+    }
+
+    pub one-narrowed : {after : List ℕ} {asked : Bool} → asked ≡ bitOf n opposed i
+        → after ≡ cond asked (set mid (2 * mostBits + i) (min d (getD mid (2 * mostBits + i) 0))) mid
+        → NarrowedTo n label opposed d (i + 1) old after
+    one-narrowed f g = rw g (after-is _ f)
+
+-- A leaf that does not come sooner is not below the best metric, and one that does is not above it
+module _ (d node best label : ℕ) where
+  pub not-sooner : sooner d node best label ≡ false → best ≤ d
+  not-sooner e = go (ltb d best) refl e
+    where
+      go : (x : Bool) → ltb d best ≡ x → (x || (eqb d best && ltb node label)) ≡ false → best ≤ d
+      go true f g = absurd (true≢false g)
+      go false f g = ltb-false d best f
+
+  pub is-sooner : sooner d node best label ≡ true → d ≤ best
+  is-sooner e = go (ltb d best) refl (eqb d best) refl e
+    where
+      go : (x : Bool) → ltb d best ≡ x → (y : Bool) → eqb d best ≡ y → (x || (y && ltb node label)) ≡ true → d ≤ best
+      go true f y k g = omega (arith, ltb-true d best f)
+      go false f true k g = omega (arith, eqb-true d best k)
+      go false f false k g = absurd (true≢false (sym g))
+
+-- All bits, then the best label, and the limits renewed
+pub leaf-noted : {v : Vector} {n node d label best : ℕ} {old sides after : List ℕ} (label₀ best₀ : ℕ) → n ≡ labelBits v
+    → NotedTo n node d n old sides → label ≡ cond (sooner d node best₀ label₀) node label₀ → best ≡ min d best₀
+    → Renewed v label best sides after → takenIn label best after ≡ noted v node d (takenIn label₀ best₀ old)
+unfolding noted
+leaf-noted label₀ best₀ en s el eb r = r .kept ∙ (λ j. takenOf (el j) (eb j) (s .zeros j) (s .ones j)) ∙ rw en

@@ -1,0 +1,61 @@
+-- The limits are filled in behind the minima, and then what they give behind the limits.
+use borrow.Author.Needs.{needs}
+use mathlib.Core.Path.{sym, _∙_}
+use Rattle.model.specs.Metric.{Vector}
+use Rattle.block.proofs.Places.{rows-count}
+use Rattle.reach.proofs.Passing.{none-stands}
+use Rattle.leaves.specs.Limits.{vectorFor}
+use Rattle.leaves.proofs.Renewed.{lentLimits, lent-whole, made-whole, made-kept, made-right, renewed}
+use Rattle.leaves.proofs.renew_limits.Statement.{statement}
+use Rattle.leaves.proofs.renew_limits.Tie as tie
+
+abbrev v : tie.Start → Vector
+v s = vectorFor (s .args .sizes) (s .args .numbers .now)
+
+fill-requires : tie.Need-fill-requires
+fill-requires c κs =
+    let l = c .before .before .before in
+    let s = l .before .before .before in
+    let p = s .pre .0 .vector in
+    let mid = l .limit-all .last .1 .1 .1 .0 in (
+      p .streams,
+      p .bits,
+      p .label,
+      lent-whole mid
+          (made-whole (v s) (s .args .sizes .streams) (p .label) (s .args .best .label) (s .args .best .metric) (s .args .minima .now) mid
+          (s .pre .2) (l .limit-all .ensures)),
+      none-stands (s .args .sizes .streams) (s .args .sizes .width) (lentLimits mid) (p .bit) (p .label),
+    )
+
+returns : tie.Need-returns
+returns c =
+    let f = c .before .before in
+    let l = f .before .before .before .before in
+    let s = l .before .before .before in
+    let m = s .args .sizes .streams in
+    let few = s .pre .0 .vector .label in
+    let label = s .args .best .label in
+    let best = s .args .best .metric in
+    let old = s .args .minima .now in
+    let mid = l .limit-all .last .1 .1 .1 .0 in
+    let made = l .limit-all .ensures in
+    let whole = made-whole (v s) m few label best old mid (s .pre .2) made in
+    let right = made-right (v s) m few label best old mid (s .pre .2) made in
+    let r = renewed (v s) m (sym (rows-count _ _ _)) (s .pre .0 .vector .bits) label best mid whole right (f .fill .last .1 .1 .0) (f .fill .ensures) in
+    record {
+      size = r .size ∙ whole ∙ sym (s .pre .2);
+      kept = r .kept ∙ made-kept (v s) m few label best old mid (s .pre .2) made;
+      limited = r .limited;
+    }
+
+pub renew-limits-spec : {M : Type 1} → statement M
+renew-limits-spec =
+    tie.close
+    (tie.spec
+    (λ c κs. search needs)
+    (λ c. search needs)
+    (λ c. search needs)
+    (λ c. search needs)
+    fill-requires
+    (λ c. search needs)
+    returns)

@@ -1,0 +1,3 @@
+-- What is kept of a search's leaves.
+pub mod Limits
+pub mod Values

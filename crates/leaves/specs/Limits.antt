@@ -1,0 +1,82 @@
+-- A vector by its numbers, a bit's limit as one number, and what is kept of the leaves in one array: the minima, the limits and what these give.
+use Prim.Native.Nat.{ℕ, suc, _+_, _*_, _≤_, _<_, _^_, min}
+use mathlib.Core.Path.{_≡_}
+use mathlib.Core.Bool.{Bool, true, false, cond}
+use mathlib.Core.List.{List}
+use lib.ListN.{length, getD}
+use lib.IntN.{ℤ, pos, negsuc}
+use Rattle.model.specs.Metric.{Vector, labelBits, priorAt}
+use Rattle.model.specs.Block.{mostBits, mostClip}
+use Rattle.block.specs.Contents.{rowsOf}
+use Rattle.metric.specs.Rows.{VectorAsked}
+use Rattle.metric.specs.Parts.{bitOf, filled}
+use Rattle.pruning.specs.Program.{above, Taken, takenIn, zerosOf, onesOf, limitsOf, reachOf, loweredAt}
+use Rattle.cutoff.specs.Cut.{Widest}
+use Rattle.reach.specs.Reach.{limitsSize, firstPlace, entriesOf, streamReach, Reaches}
+use Rattle.leaves.specs.declared.Sizes.{Sizes}
+
+-- The vector that m rows with q bits a symbol are, by their numbers
+abbrev pub vectorAt : ℕ → ℕ → ℕ → List ℤ → Vector
+vectorAt m q clip numbers = record { width = q; clip = clip; rows = rowsOf m q numbers }
+
+-- What a search asks of its vector: document 01's ranges
+pub record SearchAsked (m q clip : ℕ) (numbers : List ℤ) : Type 0 where
+  pub stream : 0 < m
+  pub vector : VectorAsked m q numbers
+  pub clips : clip ≤ mostClip
+
+-- The same by its sizes
+abbrev pub vectorFor : Sizes → List ℤ → Vector
+vectorFor s numbers = vectorAt (s .streams) (s .width) (s .clip) numbers
+
+abbrev pub Asked : Sizes → List ℤ → Type 0
+Asked s numbers = SearchAsked (s .streams) (s .width) (s .clip) numbers
+
+-- A whole number, 0 in place of a negative one
+unfoldable pub upOf : ℤ → ℕ
+upOf (pos n) = n
+upOf (negsuc n) = 0
+
+-- Bit i's limit: a partial metric lets the bit be of use where it is below this number
+unfoldable pub limitAt : Vector → Taken → ℕ → ℕ
+limitAt v t i =
+    let b = bitOf (labelBits v) (t .label) i in
+    min (getD (cond b (t .zeros) (t .ones)) i 0) (upOf (reachOf b (t .best + v .clip) (priorAt v i)))
+
+-- The places of the array of minima, with the limits and what they give behind them
+abbrev pub minimaSize : ℕ
+minimaSize = 2 * mostBits + limitsSize
+
+-- The place of the least metric with bit i as it is
+abbrev pub minimumPlace : Bool → ℕ → ℕ
+minimumPlace bit i = cond bit (mostBits + i) i
+
+-- A label of metric d is taken into the minima of the first k of its n bits: each side is lowered by the bits of that side
+pub record NotedTo (n label d k : ℕ) (old new : List ℕ) : Type 0 where
+  pub size : length new ≡ length old
+  pub zeros : zerosOf new ≡ filled (loweredAt n false label d (zerosOf old)) k (zerosOf old)
+  pub ones : onesOf new ≡ filled (loweredAt n true label d (onesOf old)) k (onesOf old)
+
+-- and into the limits of those that are 1 in `opposed`, and no others
+pub record NarrowedTo (n label opposed d k : ℕ) (old new : List ℕ) : Type 0 where
+  pub sides : NotedTo n label d k old new
+  pub limits : limitsOf new ≡ filled (loweredAt n true opposed d (limitsOf old)) k (limitsOf old)
+
+-- The limits are as many as they are; of each axis's entries the last is the widest, and none is wider than its single bits; no symbol's
+-- limits are wider than those of all streams up to its own
+pub record LimitsAsked (m q : ℕ) (limits : List ℕ) : Type 0 where
+  pub size : length limits ≡ limitsSize
+  pub widest : (j : ℕ) → j < m → Widest q (entriesOf limits j)
+  pub wider : (j s : ℕ) → j < m → s < 2 ^ q → streamReach q limits j s ≤ getD limits (firstPlace (suc j)) 0
+
+-- The limits kept are, once there is a best label, those of what the leaves gave: the array has what they give. Before, every child passes,
+-- and they may be any
+pub record Limited (v : Vector) (t : Taken) (limits : List ℕ) : Type 0 where
+  pub asked : LimitsAsked (length (v .rows)) (v .width) limits
+  pub exact : t .best < above → Reaches (v .width) (limitAt v t) limits (length (v .rows))
+
+-- The limits are renewed behind minima that stay
+pub record Renewed (v : Vector) (label best : ℕ) (old new : List ℕ) : Type 0 where
+  pub size : length new ≡ length old
+  pub kept : takenIn label best new ≡ takenIn label best old
+  pub limited : Limited v (takenIn label best new) (limitsOf new)
