@@ -62,6 +62,9 @@ module _ {m q clip : ℕ} {numbers : List ℤ} {n : Node} (w : NodeIn m q clip n
   pub node-placed : n .bits < 2 ^ ((m - n .level) * q)
   node-placed = subst (λ (x : ℕ). n .bits < 2 ^ x) (chosen-by v m (n .level) (sym streams)) (w .placed)
 
+  pub leaf-placed : n .level ≡ 0 → n .bits < 2 ^ (m * q)
+  leaf-placed e = let all : m - n .level ≡ m = omega arith in subst (λ (x : ℕ). n .bits < 2 ^ (x * q)) all node-placed
+
   -- A node that is no leaf
   module _ (inner : 0 < n .level) where
     pub level-up : n .level ≡ suc (n .level - 1)

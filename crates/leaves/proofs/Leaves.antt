@@ -1,5 +1,5 @@
--- A leaf is taken: its metric lowers the minima of its bits, each on its side; then the limits behind them are renewed, or lowered like these.
-use Prim.Native.Nat.{ℕ, _+_, _*_, _<_, _≤_, min}
+-- A leaf is taken: its metric lowers the minima of its bits, each on its side; then the limits behind them are renewed.
+use Prim.Native.Nat.{ℕ, _+_, _<_, _≤_, min}
 use mathlib.Core.Path.{_≡_, refl, sym, _∙_, ap}
 use mathlib.Core.Bool.{Bool, true, false, cond, _&&_, _||_, Bool·beq, true≢false}
 use mathlib.Core.List.{List}
@@ -7,14 +7,14 @@ use native.Mathlib.Omega.{arith}
 use lib.Dec.{ltb, eqb}
 use borrow.Author.Tests.{ltb-true, ltb-false, eqb-true}
 use lib.ListN.{getD, set, take, drop, length-set}
-use lib.Seq.{take-set-lt, take-set-le, drop-set-lt, drop-set-add, getD-drop}
+use lib.Seq.{take-set-lt, take-set-le, drop-set-lt, drop-set-add}
 use Rattle.model.specs.Block.{mostBits}
 use Rattle.model.specs.Metric.{Vector, labelBits}
 use Rattle.metric.specs.Parts.{bitOf, filled}
-use Rattle.pruning.specs.Program.{takenOf, takenIn, zerosOf, onesOf, limitsOf, loweredAt, sooner, noted}
+use Rattle.pruning.specs.Program.{takenOf, takenIn, zerosOf, onesOf, sooner, noted}
 use Rattle.pruning.proofs.Minima.{zero-at, one-at}
 use Rattle.pruning.proofs.Steps.{lowered-hit, lowered-miss}
-use Rattle.leaves.specs.Limits.{minimumPlace, NotedTo, NarrowedTo, Renewed}
+use Rattle.leaves.specs.Limits.{minimumPlace, NotedTo, Renewed}
 
 module _ (n label d : ℕ) (old : List ℕ) where
   -- Before the first bit nothing is lowered
@@ -49,51 +49,6 @@ module _ (n label d : ℕ) (old : List ℕ) where
   pub one-noted : {new after : List ℕ} {i at : ℕ} {bit : Bool} → i < mostBits → NotedTo n label d i old new → bit ≡ bitOf n label i
       → at ≡ minimumPlace bit i → after ≡ set new at (min d (getD new at 0)) → NotedTo n label d (i + 1) old after
   one-noted h before e place lowered = rw (lowered, place) (one-more _ _ h before _ e)
-
--- The same with the limits of the bits that are 1 in a number
-module _ (n label opposed d : ℕ) (old : List ℕ) where
-  pub none-narrowed : NarrowedTo n label opposed d 0 old old
-  unfolding filled
-  none-narrowed = record { sides = none-noted n label d old; limits = refl }
-
-  module _ {new mid : List ℕ} {i at : ℕ} {bit : Bool} (h : i < mostBits) (before : NarrowedTo n label opposed d i old new)
-      (e : bit ≡ bitOf n label i) (place : at ≡ minimumPlace bit i) (side : at < 2 * mostBits)
-      (lowered : mid ≡ set new at (min d (getD new at 0))) where
-    noted-mid : NotedTo n label d (i + 1) old mid
-    noted-mid = one-noted n label d old h (before .sides) e place lowered
-
-    -- A side's minimum is not one of the limits
-    limits-mid : limitsOf mid ≡ filled (loweredAt n true opposed d (limitsOf old)) i (limitsOf old)
-    limits-mid = ap limitsOf lowered ∙ drop-set-lt (2 * mostBits) new at (min d (getD new at 0)) side ∙ before .limits
-
-    -- nor a limit one of the minima
-    noted-after : (u : ℕ) → NotedTo n label d (i + 1) old (set mid (2 * mostBits + i) u)
-    noted-after u = record {
-      size = length-set mid (2 * mostBits + i) u ∙ noted-mid .size;
-      zeros = take-set-le mostBits mid (2 * mostBits + i) u (omega arith) ∙ noted-mid .zeros;
-      ones =
-          let at-ones : 2 * mostBits + i ≡ mostBits + (mostBits + i) = omega arith in
-          ap (λ (p : ℕ). onesOf (set mid p u)) at-ones ∙ ap (take mostBits) (drop-set-add mostBits mid (mostBits + i) u)
-          ∙ take-set-le mostBits (drop mostBits mid) (mostBits + i) u (omega arith) ∙ noted-mid .ones;
-    }
-
-    after-is : (asked : Bool) → asked ≡ bitOf n opposed i
-        → NarrowedTo n label opposed d (i + 1) old (cond asked (set mid (2 * mostBits + i) (min d (getD mid (2 * mostBits + i) 0))) mid)
-    after-is true f = record {
-      sides = noted-after (min d (getD mid (2 * mostBits + i) 0));
-      limits = drop-set-add (2 * mostBits) mid i (min d (getD mid (2 * mostBits + i) 0))
-          ∙ ap (λ (x : ℕ). set (limitsOf mid) i (min d x)) (sym (getD-drop (2 * mostBits) mid i 0))
-          ∙ lowered-hit n true opposed d (limitsOf old) (limitsOf mid) i limits-mid (ap (λ (b : Bool). Bool·beq b true) (sym f));
-    }
-    after-is false f = record {
-      sides = noted-mid;
-      limits = lowered-miss n true opposed d (limitsOf old) (limitsOf mid) i limits-mid (ap (λ (b : Bool). Bool·beq b true) (sym f));
-    }
-
-    pub one-narrowed : {after : List ℕ} {asked : Bool} → asked ≡ bitOf n opposed i
-        → after ≡ cond asked (set mid (2 * mostBits + i) (min d (getD mid (2 * mostBits + i) 0))) mid
-        → NarrowedTo n label opposed d (i + 1) old after
-    one-narrowed f g = rw g (after-is _ f)
 
 -- A leaf that does not come sooner is not below the best metric, and one that does is not above it
 module _ (d node best label : ℕ) where

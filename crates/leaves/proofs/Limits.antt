@@ -25,7 +25,7 @@ use Rattle.pruning.proofs.Reach.{widest-same}
 use Rattle.cutoff.specs.Axes.{WidestLast, ByBits}
 use Rattle.reach.specs.Reach.{limitsSize, firstPlace, entryPlace, entriesOf, axisStart, axisReach, Reaches, streamReach}
 use Rattle.reach.proofs.Passing.{entries-widest, stream-wider}
-use Rattle.leaves.specs.Limits.{upOf, limitAt, LimitsAsked, Limited}
+use Rattle.leaves.specs.Limits.{upOf, limitAt, LimitsAsked, OwnLow, Limited}
 
 up-is : (d : ℕ) (z : ℤ) → ltZ (pos d) z ≡ ltb d (upOf z)
 unfolding upOf
@@ -70,14 +70,16 @@ reaches-same {q} {k} {f} {g} {limits} same r = record {
     within j imaginary = omega (arith, add-mul j 1 q)
 
 -- An array that has what the limits give may be lent where limits are asked
-pub reached-limited : {v : Vector} {t : Taken} {limits : List ℕ} → v .width ≤ mostWidth
+pub reached-limited : {v : Vector} {t : Taken} {limits : List ℕ} → v .width ≤ mostWidth → t .label < 2 ^ labelBits v → OwnLow v t
     → Reaches (v .width) (limitAt v t) limits (length (v .rows)) → Limited v t limits
-reached-limited few made = record {
+reached-limited few placed low made = record {
+  placed = placed;
   asked = record {
     size = made .size;
     widest = λ j h. entries-widest made j h few;
     wider = λ j s h l. stream-wider made j s h l;
   };
+  own = λ _. low;
   exact = λ _. made;
 }
 

@@ -6,9 +6,8 @@ use mathlib.Core.List.{List, [], _∷_, _++_}
 use native.Mathlib.Omega.{arith}
 use lib.Bits.{bitXor}
 use lib.ListN.{length, getD, take, drop, length-drop, drop-of-length-le}
-use lib.Seq.{length-take-le}
 use Rattle.model.specs.Metric.{Vector, labelBits, priorAt}
-use Rattle.model.specs.Block.{mostWidth, mostBits}
+use Rattle.model.specs.Block.{mostBits}
 use Rattle.metric.specs.Parts.{bitOf, filled}
 use Rattle.metric.proofs.Filled.{filled-at, filled-rest, filled-length}
 use Rattle.pruning.specs.Program.{Taken, takenIn, zerosOf, onesOf, limitsOf, reachOf, loweredAt}
@@ -17,7 +16,8 @@ use Rattle.reach.specs.Reach.{limitIn, limitsSize, StandsFor, Reaches}
 use Rattle.metric.proofs.Opposite.{xor-opposite}
 use Rattle.reach.proofs.Passing.{still-stands}
 use Rattle.leaves.specs.Limits.{minimaSize, upOf, limitAt, NarrowedTo, Renewed}
-use Rattle.leaves.proofs.Limits.{reaches-same, reached-limited}
+use Rattle.leaves.proofs.Limits.{reaches-same}
+use Rattle.leaves.proofs.Own.{zero-falls, one-falls}
 
 append-nil : (l : List ℕ) → l ++ [] ≡ l
 append-nil [] = refl
@@ -31,7 +31,7 @@ pub lent-whole : (minima : List ℕ) → length minima ≡ minimaSize → length
 lent-whole minima whole = ap length (limits-part minima) ∙ limits-length minima ∙ omega arith
 
 -- Where the limits are right, and what they give is put behind them
-module _ (v : Vector) (m : ℕ) (em : m ≡ length (v .rows)) (width : v .width ≤ mostWidth) (label best : ℕ) (mid : List ℕ)
+module _ (v : Vector) (m : ℕ) (em : m ≡ length (v .rows)) (label best : ℕ) (mid : List ℕ)
     (whole : length mid ≡ minimaSize)
     (right : (i : ℕ) → i < m * v .width → limitIn (limitsOf mid) i ≡ limitAt v (takenIn label best mid) i)
     (new : List ℕ) (gives : Reaches (v .width) (limitIn (lentLimits mid)) new m) where
@@ -57,8 +57,8 @@ module _ (v : Vector) (m : ℕ) (em : m ≡ length (v .rows)) (width : v .width 
   renewed = record {
     size = ap length after-is ∙ limits-whole mid (omega arith) new new-whole;
     kept = kept-after;
-    limited = rw (ap limitsOf after-is ∙ limits-are mid (omega arith) new)
-        (reached-limited width (subst (Reaches (v .width) (limitAt v (takenIn label best after)) new) em (reaches-same same gives)));
+    reached = rw (ap limitsOf after-is ∙ limits-are mid (omega arith) new)
+        (subst (Reaches (v .width) (limitAt v (takenIn label best after)) new) em (reaches-same same gives));
   }
 
 -- All limits are made
@@ -101,17 +101,6 @@ module _ (v : Vector) (m : ℕ) (em : m ≡ length (v .rows)) (few : m * v .widt
   pub narrowed-whole : length mid ≡ minimaSize
   narrowed-whole = narrowed .sides .size ∙ whole
 
-  zero-falls : (i : ℕ) → i < n → getD (zerosOf mid) i 0 ≡ loweredAt n false node d (zerosOf old) i
-  zero-falls i h =
-      ap (λ (l : List ℕ). getD l i 0) (narrowed .sides .zeros)
-      ∙ filled-at _ n (zerosOf old) i 0 h (omega (arith, length-take-le mostBits old (omega arith)))
-
-  one-falls : (i : ℕ) → i < n → getD (onesOf mid) i 0 ≡ loweredAt n true node d (onesOf old) i
-  one-falls i h =
-      ap (λ (l : List ℕ). getD l i 0) (narrowed .sides .ones)
-      ∙ filled-at _ n (onesOf old) i 0 h
-      (omega (arith, length-take-le mostBits (drop mostBits old) (omega (arith, length-drop mostBits old))))
-
   limit-is : (i : ℕ) → i < n → limitIn (limitsOf mid) i ≡ loweredAt n true (bitXor node label) d (limitsOf old) i
   limit-is i h =
       ap (λ (l : List ℕ). getD l i 0) (narrowed .limits) ∙ filled-at _ n (limitsOf old) i 0 h (omega (arith, limits-length old))
@@ -126,7 +115,7 @@ module _ (v : Vector) (m : ℕ) (em : m ≡ length (v .rows)) (few : m * v .widt
       limit-is i h
       ∙ ap₂ (λ (y : Bool) (u : ℕ). cond (Bool·beq y true) (min d u) u) (xor-opposite n node label i) (reached .own i h)
       ∙ ap (λ (k : ℕ). cond (Bool·beq (not (Bool·beq (bitOf n node i) (bitOf k label i))) true) (min d u) u) bits
-      ∙ limit-falls (bitOf n node i) b (zerosOf old) (onesOf old) (zerosOf mid) (onesOf mid) i d far (zero-falls i h) (one-falls i h)
+      ∙ limit-falls (bitOf n node i) b (zerosOf old) (onesOf old) (zerosOf mid) (onesOf mid) i d far (zero-falls few whole (narrowed .sides) i h) (one-falls few whole (narrowed .sides) i h)
 
   -- and the entries of the streams where the leaf is the best label's stay right
   unopposed : (i : ℕ) → i < n → bitOf n (bitXor node label) i ≡ false → limitIn (lentLimits mid) i ≡ limitAt v (takenIn label best old) i

@@ -3,7 +3,7 @@ use Prim.Native.Nat.{ℕ, suc, _+_, _*_, _≤_, _<_, _^_, min}
 use mathlib.Core.Path.{_≡_}
 use mathlib.Core.Bool.{Bool, true, false, cond}
 use mathlib.Core.List.{List}
-use lib.ListN.{length, getD}
+use lib.ListN.{length, getD, set}
 use lib.IntN.{ℤ, pos, negsuc}
 use Rattle.model.specs.Metric.{Vector, labelBits, priorAt}
 use Rattle.model.specs.Block.{mostBits, mostClip}
@@ -62,6 +62,17 @@ pub record NarrowedTo (n label opposed d k : ℕ) (old new : List ℕ) : Type 0 
   pub sides : NotedTo n label d k old new
   pub limits : limitsOf new ≡ filled (loweredAt n true opposed d (limitsOf old)) k (limitsOf old)
 
+-- One bit of a label of metric d: the least metric of its side and its limit are lowered
+abbrev pub loweredBoth : Bool → ℕ → ℕ → List ℕ → List ℕ
+loweredBoth bit i d old =
+    let new = set old (minimumPlace bit i) (min d (getD old (minimumPlace bit i) 0)) in
+    set new (2 * mostBits + i) (min d (getD new (2 * mostBits + i) 0))
+
+-- At each bit of a label that is 0 in `opposed` the least metric of its side is not above d
+abbrev pub LowBeside : ℕ → ℕ → ℕ → ℕ → List ℕ → Type 0
+LowBeside n label opposed d minima =
+    (i : ℕ) → i < n → bitOf n opposed i ≡ false → getD minima (minimumPlace (bitOf n label i) i) 0 ≤ d
+
 -- The limits are as many as they are; of each axis's entries the last is the widest, and none is wider than its single bits; no symbol's
 -- limits are wider than those of all streams up to its own
 pub record LimitsAsked (m q : ℕ) (limits : List ℕ) : Type 0 where
@@ -69,14 +80,21 @@ pub record LimitsAsked (m q : ℕ) (limits : List ℕ) : Type 0 where
   pub widest : (j : ℕ) → j < m → Widest q (entriesOf limits j)
   pub wider : (j s : ℕ) → j < m → s < 2 ^ q → streamReach q limits j s ≤ getD limits (firstPlace (suc j)) 0
 
--- The limits kept are, once there is a best label, those of what the leaves gave: the array has what they give. Before, every child passes,
--- and they may be any
+-- The best label's own side of each bit has no least metric above its own
+abbrev pub OwnLow : Vector → Taken → Type 0
+OwnLow v t =
+    (i : ℕ) → i < labelBits v → getD (cond (bitOf (labelBits v) (t .label) i) (t .ones) (t .zeros)) i 0 ≤ t .best
+
+-- What is kept of the leaves, with the limits: once there is a best label, its sides are low, and the limits are those of what the leaves
+-- gave: the array has what they give. Before, every child passes, and they may be any
 pub record Limited (v : Vector) (t : Taken) (limits : List ℕ) : Type 0 where
+  pub placed : t .label < 2 ^ labelBits v
   pub asked : LimitsAsked (length (v .rows)) (v .width) limits
+  pub own : t .best < above → OwnLow v t
   pub exact : t .best < above → Reaches (v .width) (limitAt v t) limits (length (v .rows))
 
 -- The limits are renewed behind minima that stay
 pub record Renewed (v : Vector) (label best : ℕ) (old new : List ℕ) : Type 0 where
   pub size : length new ≡ length old
   pub kept : takenIn label best new ≡ takenIn label best old
-  pub limited : Limited v (takenIn label best new) (limitsOf new)
+  pub reached : Reaches (v .width) (limitAt v (takenIn label best new)) (limitsOf new) (length (v .rows))

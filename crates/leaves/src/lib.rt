@@ -11,9 +11,9 @@ ghost use Rattle.model.specs.Metric.{priorAt};
 ghost use Rattle.model.specs.Soft.{softValue};
 ghost use Rattle.model.specs.Block.{mostBits, mostClip};
 ghost use Rattle.metric.specs.Rows.{VectorAsked};
-ghost use Rattle.metric.specs.Parts.{filled};
+ghost use Rattle.metric.specs.Parts.{bitOf, filled};
 ghost use Rattle.pruning.specs.Program.{above, sideOf, valueOf, takenIn, zerosOf, onesOf, limitsOf, keptOf, reachOf, sooner, noted};
-ghost use Rattle.leaves.specs.Limits.{vectorFor, Asked, upOf, limitAt, minimaSize, minimumPlace, NotedTo, NarrowedTo, Limited, Renewed};
+ghost use Rattle.leaves.specs.Limits.{vectorFor, Asked, upOf, limitAt, minimaSize, minimumPlace, NotedTo, NarrowedTo, loweredBoth, LowBeside, Limited, Renewed};
 ghost use Rattle.leaves.specs.Values.{MinimaLow};
 
 // A vector's M, Q and C.
@@ -88,17 +88,6 @@ fn lower(least: &mut [u64], i: usize, d: u64)
     }
 }
 
-// The same, where it is asked for.
-fn lower_where(asked: bool, least: &mut [u64], i: usize, d: u64)
-    requires { ⌜ i < length (now least) ⌝ }
-    ensures { λ _. ⌜ now (least .exit)
-        ≡ cond asked (set (now (least .entry)) i (min d (getD (now (least .entry)) i 0))) (now (least .entry)) ⌝ }
-{
-    if asked {
-        return lower(least, i, d);
-    }
-}
-
 // The place of the least metric with bit i as it is.
 fn minimum_place(bit: bool, i: usize) -> usize
     requires { ⌜ i < mostBits ⌝ }
@@ -120,18 +109,30 @@ fn note(n: usize, label: u32, d: u64, minima: &mut [u64])
     }
 }
 
-// The same for a leaf that leaves the best label as it is: its metric is taken into the limits, too, of its bits that are opposite to that
-// label's, which are 1 in `opposed`. Nothing else can change a limit then.
+// A leaf's metric at a bit in which it is opposite to the best label: it is taken into the least one of the bit's side, and into the limit.
+fn narrow_at(n: usize, label: u32, i: usize, d: u64, minima: &mut [u64])
+    requires { ⌜ (n ≤ mostBits) × (i < n) × (length (now minima) ≡ minimaSize) ⌝ }
+    ensures { λ _. ⌜ now (minima .exit) ≡ loweredBoth (bitOf n label i) i d (now (minima .entry)) ⌝ }
+{
+    let bit = metric::bit_at(n, label, i);
+    lower(minima, minimum_place(bit, i), d);
+    lower(minima, LIMITS + i, d);
+}
+
+// The same as `note` for a leaf that leaves the best label as it is: its metric is taken into the limits, too, of its bits that are opposite to
+// that label's, which are 1 in `opposed`. Nothing else can change: at the other bits the least metric of the leaf's side is the best label's
+// own, or below it. So only the ones are visited, from the last bit on.
 fn narrow(n: usize, label: u32, opposed: u32, d: u64, minima: &mut [u64])
-    requires { ⌜ (n ≤ mostBits) × (length (now minima) ≡ minimaSize) ⌝ }
+    requires { ⌜ (n ≤ mostBits) × (length (now minima) ≡ minimaSize) × (opposed < 2 ^ n) × LowBeside n label opposed d (now minima) ⌝ }
     ensures { λ _. ⌜ NarrowedTo n label opposed d n (now (minima .entry)) (now (minima .exit)) ⌝ }
 {
-    let mut i = 0;
-    while i < n {
-        let bit = metric::bit_at(n, label, i);
-        lower(minima, minimum_place(bit, i), d);
-        lower_where(metric::bit_at(n, opposed, i), minima, LIMITS + i, d);
-        i += 1;
+    let mut rest = opposed;
+    let mut i = n;
+    while rest != 0 {
+        let zeros = u32::trailing_zeros(rest);
+        i = i - 1 - zeros as usize;
+        narrow_at(n, label, i, d, minima);
+        rest = (rest >> zeros) >> 1;
     }
 }
 
@@ -198,6 +199,7 @@ fn renew_limits(sizes: Sizes, numbers: &[i32], best: Best, minima: &mut [u64])
 // stay, and few limits change.
 pub fn take(sizes: Sizes, leaf: Best, kept: Kept, numbers: &[i32], minima: &mut [u64]) -> Kept
     requires { ⌜ Asked sizes (now numbers) × (leaf .metric < above) × (length (now minima) ≡ minimaSize)
+        × (leaf .label < 2 ^ (sizes .streams * sizes .width))
         × Limited (vectorFor sizes (now numbers)) (takenIn (kept .label) (kept .best) (now minima)) (limitsOf (now minima)) ⌝ }
     ensures { λ r. ⌜ (keptOf (r .count) (r .stopped) (takenIn (r .label) (r .best) (now (minima .exit)))
         ≡ keptOf (kept .count) (kept .stopped)

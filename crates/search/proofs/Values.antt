@@ -68,8 +68,10 @@ module _ {m q clip : ℕ} {numbers : List ℤ} (h : SearchAsked m q clip numbers
     };
     lowest = le-refl above;
     limited = record {
+      placed = pow-pos (labelBits (vectorAt m q clip numbers));
       asked = subst (λ (k : ℕ). LimitsAsked k q (replicate limitsSize above)) (sym (rows-count m q numbers))
           (all-same m q above (h .vector .streams) (h .vector .bits));
+      own = λ found. absurd (omega arith);
       exact = λ found. absurd (omega arith);
     };
     opposed = none-chosen m q (limitsOf untaken) 0;

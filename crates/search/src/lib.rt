@@ -78,6 +78,7 @@ fn passes(kept: Kept, limits: &[u64], d: u64, level: usize, chosen: u64) -> bool
 // A leaf is taken into what is kept.
 fn take_leaf(task: Task, leaf: Node, kept: Kept, numbers: &[i32], minima: &mut [u64]) -> Kept
     requires { ⌜ Asked task (now numbers) × (leaf .partial < above) × (length (now minima) ≡ minimaSize)
+        × (leaf .bits < 2 ^ (task .streams * task .width))
         × Limited (vectorFor task (now numbers)) (takenIn (kept .label) (kept .best) (now minima)) (limitsOf (now minima)) ⌝ }
     ensures { λ r. ⌜ (keptOf (r .count) (r .stopped) (takenIn (r .label) (r .best) (now (minima .exit)))
         ≡ keptOf (kept .count) (kept .stopped)

@@ -105,7 +105,7 @@ fn least_key<const N: usize>(keys: &[i64; N], fours: &Fours) -> i64 {
 fn put<const N: usize>(keys: &mut [i64; N], fours: &mut Fours, label: usize, key: i64) {
     keys[label] = key;
     if N == 16 {
-        fours[label / 4 & 3] = least_of_four(keys, label & 12);
+        fours[(label / 4) & 3] = least_of_four(keys, label & 12);
     }
 }
 

@@ -1,48 +1,59 @@
--- After i turns the first i bits are noted, and the limits of those that are opposed are lowered with them.
-use mathlib.Core.Path.{_≡_, _∙_, subst}
-use Prim.Native.Nat.{ℕ, _≤_, _<_, _-_}
+-- Of the opposed bits those from i on are seen; what is left of `opposed` are its bits before i.
+use mathlib.Core.Path.{_≡_, _∙_}
+use Prim.Native.Nat.{_≤_, _<_, _-_, _/_, _^_}
+use native.Mathlib.Nat.{lt-of-lt-of-le}
 use native.Mathlib.Omega.{arith}
+use lib.Count.{trailingZeros}
+use lib.Pow.{pow-mono}
 use lib.ListN.{length}
-use Rattle.model.specs.Block.{mostBits}
-use Rattle.leaves.specs.Limits.{minimaSize, NarrowedTo}
-use Rattle.leaves.proofs.Leaves.{none-narrowed, one-narrowed}
+use Rattle.leaves.specs.Limits.{minimaSize}
+use Rattle.leaves.proofs.Ones.{LastOne, last-one, last-below, left-small, last-is, between, left-before, none-left, unshifted}
+use Rattle.leaves.proofs.Narrowed.{NarrowedFrom, none-narrowed, one-narrowed, all-narrowed}
 use Rattle.leaves.proofs.narrow.Statement.{statement}
 use Rattle.leaves.proofs.narrow.Tie as tie
 
 abbrev Inv-loop : tie.InvT-loop
-Inv-loop n label opposed d minima₀ i₀ minima i = (i ≤ n) × NarrowedTo n label opposed d i minima₀ minima
+Inv-loop n label opposed d minima₀ rest₀ i₀ minima rest i =
+    (i ≤ n) × (rest ≡ opposed / 2 ^ (n - i)) × NarrowedFrom n label opposed d i minima₀ minima
 
 abbrev μ-loop : tie.MeasureT-loop
-μ-loop n label opposed d minima₀ i₀ minima i = n - i
+μ-loop n label opposed d minima₀ rest₀ i₀ minima rest i = i
 
--- A bit in the loop is one of a label's
-small : (c : tie.In-loop Inv-loop μ-loop) → c .before .loop .i < mostBits
-small c = omega arith
+-- What is left has at most i bits,
+small : (c : tie.At-loop Inv-loop μ-loop) → c .loop .rest < 2 ^ c .loop .i
+small c = left-small _ (c .loop .inv .0) (c .loop .inv .1) (c .before .before .pre .2)
 
+-- the counted zeros stand behind its last one,
+last : (c : tie.In-loop Inv-loop μ-loop) → LastOne (c .before .loop .rest) (trailingZeros 32 (c .before .loop .rest))
+last c = last-one 32 _ (omega arith) (lt-of-lt-of-le (small (c .before)) (pow-mono {j = 32} (omega arith)))
+
+-- and so that is one of these
+room : (c : tie.In-loop Inv-loop μ-loop) → trailingZeros 32 (c .before .loop .rest) < c .before .loop .i
+room c = last-below _ (last c) (small (c .before))
+
+-- The array is as long as it was
 whole : (c : tie.At-loop Inv-loop μ-loop) → length (c .loop .minima) ≡ minimaSize
-whole c = c .loop .inv .1 .sides .size ∙ c .before .before .pre .1
-
--- The array once the side's minimum is lowered
-lowered-whole : (c : tie.After-lower Inv-loop μ-loop) → length (c .lower .last .0) ≡ minimaSize
-lowered-whole c = c .lower .kept .0 ∙ whole (c .before .before .before .before .before)
+whole c = c .loop .inv .2 .size ∙ c .before .before .pre .1
 
 loop-again : tie.Need-loop-again Inv-loop μ-loop
 loop-again c =
-    let opposite = c .before .before in
-    let asked = opposite .before .before in
-    let side = asked .before .before .before in
-    let place = side .before in
-    let b = place .before .before in (
+    let turn = c .before .before .before .before in
+    let l = turn .before .loop in
+    let a = turn .before .before .before .args in
+    let next : l .i - 1 - trailingZeros 32 (l .rest) < l .i = omega (arith, room turn) in (
       omega arith,
-      one-narrowed _ _ _ _ _ (small (b .before)) (b .before .before .loop .inv .1) (b .bit-at .ensures) (place .minimum-place .ensures .0)
-          (place .minimum-place .ensures .1) (side .lower .ensures) (asked .bit-at2 .ensures) (opposite .lower-where .ensures),
+      left-before (a .opposed) (l .inv .0) (l .inv .1) (last turn) (room turn),
+      one-narrowed (a .opposed) (l .inv .2) (turn .before .before .before .pre .0) (whole (turn .before)) next (l .inv .0)
+          (last-is (a .opposed) (l .inv .0) (l .inv .1) (last turn) (room turn))
+          (between (a .opposed) (l .inv .0) (l .inv .1) (last turn) (room turn)) (c .before .before .narrow-at .ensures),
     )
 
 returns : tie.Need-returns Inv-loop μ-loop
 returns c =
-    let a = c .before .before .before .args in
+    let start = c .before .before .before in
     let l = c .before .loop in
-    subst (λ (k : ℕ). NarrowedTo (a .n) (a .label) (a .opposed) (a .d) k (a .minima .now) (l .minima)) (omega arith) (l .inv .1)
+    all-narrowed (start .args .opposed) (start .pre .0) (start .pre .1) (start .pre .3) (l .inv .2)
+    (none-left (start .args .opposed) (l .inv .0) (l .inv .1) (omega arith))
 
 pub narrow-spec : {M : Type 1} → statement M
 narrow-spec =
@@ -50,15 +61,13 @@ narrow-spec =
     (tie.spec
     Inv-loop
     μ-loop
-    (λ c. (omega arith, none-narrowed _ _ _ _ _))
-    (λ c κs. (c .loop-test .taken, c .before .before .before .pre .0))
-    (λ c κs. small (c .before .before))
-    (λ c κs. omega (arith, c .minimum-place .ensures .1, whole (c .before .before .before .before)))
-    (λ c κs. let i = c .before .before .before .before .before .before in (i .loop-test .taken, i .before .before .before .pre .0))
-    (λ c. omega (arith, small (c .before .before .before .before .before .before .before .before)))
-    (λ c κs. omega (arith, small (c .before .before .before .before .before .before .before .before), lowered-whole (c .before .before .before .before)))
-    (λ c. omega arith)
-    (λ c. omega arith)
+    (λ c. (omega arith, unshifted _ _, none-narrowed _ _ _ _ _))
+    (λ c. omega (arith, room c))
+    (λ c. omega (arith, room c))
+    (λ c. omega (arith, room c))
+    (λ c κs. (c .before .before .before .before .pre .0, omega (arith, room (c .before)), whole (c .before .before)))
+    (λ c. omega (arith, room (c .before .before .before .before)))
+    (λ c. omega (arith, room (c .before .before .before .before)))
     loop-again
-    (λ c. c .before .loop .inv .1 .sides .size)
+    (λ c. c .before .loop .inv .2 .size)
     returns)

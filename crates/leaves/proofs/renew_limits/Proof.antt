@@ -41,11 +41,11 @@ returns c =
     let made = l .limit-all .ensures in
     let whole = made-whole (v s) m few label best old mid (s .pre .2) made in
     let right = made-right (v s) m few label best old mid (s .pre .2) made in
-    let r = renewed (v s) m (sym (rows-count _ _ _)) (s .pre .0 .vector .bits) label best mid whole right (f .fill .last .1 .1 .0) (f .fill .ensures) in
+    let r = renewed (v s) m (sym (rows-count _ _ _)) label best mid whole right (f .fill .last .1 .1 .0) (f .fill .ensures) in
     record {
       size = r .size ∙ whole ∙ sym (s .pre .2);
       kept = r .kept ∙ made-kept (v s) m few label best old mid (s .pre .2) made;
-      limited = r .limited;
+      reached = r .reached;
     }
 
 pub renew-limits-spec : {M : Type 1} → statement M

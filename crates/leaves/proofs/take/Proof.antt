@@ -4,17 +4,19 @@ use mathlib.Core.Bool.{Bool, true, false, cond}
 use mathlib.Core.List.{List}
 use borrow.Author.Needs.{needs}
 use borrow.Author.Tests.{not-true, not-false}
-use Prim.Native.Nat.{ℕ, _≤_, _<_, _*_}
+use Prim.Native.Nat.{ℕ, _≤_, _<_, _*_, _^_}
 use native.Mathlib.Omega.{arith}
-use lib.Bits.{bitXor}
+use lib.Bits.{bitXor, xor-lt}
 use lib.ListN.{length}
 use Rattle.model.specs.Block.{mostBits}
-use Rattle.model.specs.Metric.{Vector}
+use Rattle.model.specs.Metric.{Vector, labelBits}
 use Rattle.block.proofs.Places.{rows-count}
 use Rattle.reach.specs.Reach.{limitIn, StandsFor, Reaches}
-use Rattle.pruning.specs.Program.{takenIn, limitsOf, keptOf, sooner}
-use Rattle.leaves.specs.Limits.{vectorFor, limitAt, minimaSize}
+use Rattle.pruning.specs.Program.{above, takenIn, limitsOf, keptOf, sooner}
+use Rattle.leaves.specs.Limits.{vectorFor, limitAt, minimaSize, OwnLow, Limited, Renewed}
+use Rattle.leaves.proofs.Limits.{reached-limited}
 use Rattle.leaves.proofs.Leaves.{not-sooner, is-sooner, leaf-noted}
+use Rattle.leaves.proofs.Own.{own-new, own-kept, low-beside}
 use Rattle.leaves.proofs.Renewed.{lentLimits, lent-whole, renewed, narrowed-whole, narrowed-right, narrowed-stands}
 use Rattle.leaves.proofs.Values.{bits-are}
 use Rattle.leaves.proofs.take.Statement.{statement}
@@ -26,76 +28,114 @@ v s = vectorFor (s .args .sizes) (s .args .numbers .now)
 rows : (s : tie.Start) → s .args .sizes .streams ≡ length (v s .rows)
 rows s = sym (rows-count (s .args .sizes .streams) (s .args .sizes .width) (s .args .numbers .now))
 
--- The leaf does not come before the best label: minima and limits are narrowed
-module _ (c : tie.After-narrow) where
-  abbrev begin : tie.Start
-  begin = c .before .before .before .before .before .before .before .before
+-- M times Q are the label's bits
+bits : (s : tie.Start) → s .args .sizes .streams * s .args .sizes .width ≡ labelBits (v s)
+bits s = let a = s .args in bits-are (a .sizes .streams) (a .sizes .width) (a .sizes .clip) (a .numbers .now)
 
-  abbrev mid : List ℕ
-  mid = c .narrow .last .1 .1 .1 .1 .0
+few : (s : tie.Start) → s .args .sizes .streams * s .args .sizes .width ≤ mostBits
+few s = s .pre .0 .vector .label
+
+-- What is kept after the call, from what its steps say
+limited : (s : tie.Start) (label best : ℕ) (mid after : List ℕ) → label < 2 ^ (s .args .sizes .streams * s .args .sizes .width)
+    → OwnLow (v s) (takenIn label best mid) → Renewed (v s) label best mid after → Limited (v s) (takenIn label best after) (limitsOf after)
+limited s label best mid after placed own r =
+    reached-limited (s .pre .0 .vector .bits) (subst (λ (n : ℕ). label < 2 ^ n) (bits s) placed) (subst (OwnLow (v s)) (sym (r .kept)) own) (r .reached)
+
+-- The leaf does not come before the best label
+module _ (t : tie.Then1) where
+  abbrev begin : tie.Start
+  begin = t .before .before .before .before
 
   later : let a = begin .args in
       sooner (a .leaf .metric) (a .leaf .label) (a .kept .best) (a .kept .label) ≡ false
-  later =
-      let t = c .before .before .before .before in
-      sym (t .before .comes-sooner .ensures) ∙ not-true _ (t .if1 .taken)
+  later = sym (t .before .comes-sooner .ensures) ∙ not-true _ (t .if1 .taken)
 
   lowest : begin .args .kept .best ≤ begin .args .leaf .metric
   lowest = let a = begin .args in not-sooner (a .leaf .metric) (a .leaf .label) (a .kept .best) (a .kept .label) later
 
-  -- so there is one, and the limits are right
+  -- so there is one: its own sides are low, and the limits are right
+  there : begin .args .kept .best < above
+  there = omega (arith, lowest, begin .pre .1)
+
+  placed : begin .args .kept .label < 2 ^ (begin .args .sizes .streams * begin .args .sizes .width)
+  placed = subst (λ (n : ℕ). begin .args .kept .label < 2 ^ n) (sym (bits begin)) (begin .pre .4 .placed)
+
   reached : let a = begin .args in
       Reaches (a .sizes .width) (limitAt (v begin) (takenIn (a .kept .label) (a .kept .best) (a .minima .now))) (limitsOf (a .minima .now))
       (a .sizes .streams)
   reached =
       let a = begin .args in
       subst (Reaches (a .sizes .width) (limitAt (v begin) (takenIn (a .kept .label) (a .kept .best) (a .minima .now))) (limitsOf (a .minima .now)))
-      (sym (rows begin)) (begin .pre .3 .exact (omega (arith, lowest, begin .pre .1)))
+      (sym (rows begin)) (begin .pre .4 .exact there)
 
-  few : begin .args .sizes .streams * begin .args .sizes .width ≤ mostBits
-  few = begin .pre .0 .vector .label
+narrow-requires : tie.Need-narrow-requires
+narrow-requires c κs =
+    let t = c .before .before .before in
+    let s = begin t in
+    let a = s .args in
+    let n = a .sizes .streams * a .sizes .width in (
+      few s,
+      s .pre .2,
+      xor-lt n (a .leaf .label) (a .kept .label) (s .pre .3) (placed t),
+      low-beside (v s) n (bits s) (few s) (a .kept .label) (a .kept .best) (a .leaf .label) (a .leaf .metric) (a .minima .now) (s .pre .4 .own (there t)) (lowest t),
+    )
+
+-- Minima and limits are narrowed
+module _ (c : tie.After-narrow) where
+  abbrev before : tie.Then1
+  before = c .before .before .before .before
+
+  abbrev s : tie.Start
+  s = begin before
+
+  abbrev mid : List ℕ
+  mid = c .narrow .last .1 .1 .1 .1 .0
 
   mid-whole : length mid ≡ minimaSize
   mid-whole =
-      let a = begin .args in
-      narrowed-whole (v begin) (a .sizes .streams) (rows begin) few (a .kept .label) (a .kept .best) (a .leaf .label) (a .leaf .metric)
-      (a .minima .now) mid (begin .pre .2) reached (c .narrow .ensures)
+      let a = s .args in
+      narrowed-whole (v s) (a .sizes .streams) (rows s) (few s) (a .kept .label) (a .kept .best) (a .leaf .label) (a .leaf .metric)
+      (a .minima .now) mid (s .pre .2) (reached before) (c .narrow .ensures)
 
-  stands : let a = begin .args in
+  stands : let a = s .args in
       StandsFor (a .sizes .streams) (a .sizes .width) (bitXor (a .leaf .label) (a .kept .label)) (lentLimits mid)
   stands =
-      let a = begin .args in
-      narrowed-stands (v begin) (a .sizes .streams) (rows begin) few (a .kept .label) (a .kept .best) (a .leaf .label) (a .leaf .metric)
-      (a .minima .now) mid (begin .pre .2) reached (c .narrow .ensures)
+      let a = s .args in
+      narrowed-stands (v s) (a .sizes .streams) (rows s) (few s) (a .kept .label) (a .kept .best) (a .leaf .label) (a .leaf .metric)
+      (a .minima .now) mid (s .pre .2) (reached before) (c .narrow .ensures)
 
-  limits-right : let a = begin .args in
+  limits-right : let a = s .args in
       (i : ℕ) → i < a .sizes .streams * a .sizes .width
-      → limitIn (limitsOf mid) i ≡ limitAt (v begin) (takenIn (a .kept .label) (a .kept .best) mid) i
+      → limitIn (limitsOf mid) i ≡ limitAt (v s) (takenIn (a .kept .label) (a .kept .best) mid) i
   limits-right =
-      let a = begin .args in
-      narrowed-right (v begin) (a .sizes .streams) (rows begin) few (a .kept .label) (a .kept .best) (a .leaf .label) (a .leaf .metric)
-      (a .minima .now) mid (begin .pre .2) reached (c .narrow .ensures)
+      let a = s .args in
+      narrowed-right (v s) (a .sizes .streams) (rows s) (few s) (a .kept .label) (a .kept .best) (a .leaf .label) (a .leaf .metric)
+      (a .minima .now) mid (s .pre .2) (reached before) (c .narrow .ensures)
+
+  own-then : OwnLow (v s) (takenIn (s .args .kept .label) (s .args .kept .best) mid)
+  own-then =
+      own-kept (few s) (s .pre .2) (c .narrow .ensures .sides) (v s) (bits s) (s .args .kept .label) (s .args .kept .best)
+      (s .pre .4 .own (there before))
 
 fill-requires : tie.Need-fill-requires
 fill-requires c κs =
     let w = c .before .before .before in
-    let p = begin w .pre .0 .vector in
+    let p = begin (before w) .pre .0 .vector in
     (p .streams, p .bits, p .label, lent-whole (mid w) (mid-whole w), stands w)
 
 returns : tie.Need-returns
 returns c =
     let f = c .before .before in
     let w = f .before .before .before .before in
-    let s = begin w in
+    let s = begin (before w) in
     let a = s .args in
-    let bits = bits-are (a .sizes .streams) (a .sizes .width) (a .sizes .clip) (a .numbers .now) in
     let r =
-    renewed (v s) (a .sizes .streams) (rows s) (s .pre .0 .vector .bits) (a .kept .label) (a .kept .best) (mid w) (mid-whole w) (limits-right w) (f .fill .last .1 .1 .0)
+    renewed (v s) (a .sizes .streams) (rows s) (a .kept .label) (a .kept .best) (mid w) (mid-whole w) (limits-right w) (f .fill .last .1 .1 .0)
     (f .fill .ensures) in
-    let label = ap (λ (b : Bool). cond b (a .leaf .label) (a .kept .label)) (sym (later w)) in (
+    let label = ap (λ (b : Bool). cond b (a .leaf .label) (a .kept .label)) (sym (later (before w))) in (
       ap (keptOf (a .kept .count) (a .kept .stopped))
-          (leaf-noted (a .kept .label) (a .kept .best) bits (w .narrow .ensures .sides) label (omega (arith, lowest w)) r),
-      r .limited,
+          (leaf-noted (a .kept .label) (a .kept .best) (bits s) (w .narrow .ensures .sides) label (omega (arith, lowest (before w))) r),
+      limited s (a .kept .label) (a .kept .best) (mid w) _ (placed (before w)) (own-then w) r,
       r .size ∙ mid-whole w,
     )
 
@@ -109,12 +149,11 @@ returns-2 c =
     let a = s .args in
     let first : sooner (a .leaf .metric) (a .leaf .label) (a .kept .best) (a .kept .label) ≡ true =
     sym (t .before .comes-sooner .ensures) ∙ not-false _ (t .if1 .left) in
-    let bits = bits-are (a .sizes .streams) (a .sizes .width) (a .sizes .clip) (a .numbers .now) in
     let label = ap (λ (b : Bool). cond b (a .leaf .label) (a .kept .label)) (sym first) in
     let low = is-sooner (a .leaf .metric) (a .leaf .label) (a .kept .best) (a .kept .label) first in (
       ap (keptOf (a .kept .count) (a .kept .stopped))
-          (leaf-noted (a .kept .label) (a .kept .best) bits (m .note .ensures) label (omega (arith, low)) (r .renew-limits .ensures)),
-      r .renew-limits .ensures .limited,
+          (leaf-noted (a .kept .label) (a .kept .best) (bits s) (m .note .ensures) label (omega (arith, low)) (r .renew-limits .ensures)),
+      limited s (a .leaf .label) (a .leaf .metric) _ _ (s .pre .3) (own-new (few s) (s .pre .2) (m .note .ensures) (v s) (bits s)) (r .renew-limits .ensures),
       r .renew-limits .ensures .size ∙ m .note .ensures .size ∙ s .pre .2,
     )
 
@@ -124,7 +163,7 @@ take-spec =
     (tie.spec
     (λ c. search needs)
     (λ c κs. search needs)
-    (λ c κs. search needs)
+    narrow-requires
     (λ c. search needs)
     (λ c. search needs)
     (λ c. search needs)

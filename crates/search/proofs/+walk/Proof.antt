@@ -3,7 +3,7 @@ use mathlib.Core.Logic.{⊎-elim}
 use mathlib.Core.Bool.{false}
 use mathlib.Core.Path.{_≡_, refl, _∙_, sym, ap, ap₂, subst}
 use mathlib.Core.List.{List}
-use Prim.Native.Nat.{ℕ, _<_, _≤_, _+_, _-_, _^_}
+use Prim.Native.Nat.{ℕ, _<_, _≤_, _+_, _-_, _*_, _^_}
 use native.Mathlib.Omega.{arith}
 use native.Mathlib.Nat.{le-refl}
 use borrow.Author.Needs.{needs}
@@ -22,7 +22,7 @@ use Rattle.search.specs.Turn.{behind, nextOf, AdvanceAsked, Advanced, Re
 use Rattle.children.specs.declared.Node.{Node}
 use Rattle.search.specs.declared.Turn.{Turn}
 use Rattle.search.specs.declared.Turn.the-variants.{Ended, Cut, Stop, Left, Leaf, Enter}
-use Rattle.children.proofs.Nodes.{room-for, partial-under, kids-few}
+use Rattle.children.proofs.Nodes.{room-for, partial-under, leaf-placed, kids-few}
 use Rattle.search.proofs.Search.{Searching, leaf-noted, places-few, start, limits-asked, next-asked}
 use Rattle.search.proofs.Search.{done, ended, halts, cut, left, past, child-asked, child-in, stops, onward, onward-here}
 use Rattle.search.proofs.walk.Reads as walk
@@ -310,8 +310,13 @@ pub +walk-spec : {M : Type 1} → statement M
     (stops (searching t a) (more t a) (n .took) (n .passes) (n .more) (counted t w) (counted-found t w) (c .if1 .taken), rw (same-taken t w) (searching t a .limited), loop t a .loop .inv .2))
     (λ c. c .match .keys4)
     (λ c κs. let a = c .before .before .before .before .before in let g = c .before .leaf .given in countable t a (answers t a (Leaf (g .0 .0)) (g .1) .0 .more))
-    (λ c κs. let a = c .before .before .before .before .before .before .before in let l = loop t a .loop in let h = searching t a in let g = c .before .before .before .leaf .given in let r = answers t a (Leaf (g .0 .0)) (g .1) in
-    (h .node .asked, omega (arith, ap (λ (n : Node). n .partial) (r .1), partial-under (child-in h (more t a))), l .inv .2, rw (c .before .counted .ensures .2, c .before .counted .ensures .3) (h .limited)))
+    (λ c κs. let a = c .before .before .before .before .before .before .before in let l = loop t a .loop in let h = searching t a in let g = c .before .before .before .leaf .given in let r = answers t a (Leaf (g .0 .0)) (g .1) in (
+      h .node .asked,
+      omega (arith, ap (λ (n : Node). n .partial) (r .1), partial-under (child-in h (more t a))),
+      l .inv .2,
+      subst (λ (n : Node). n .bits < 2 ^ (begin t a .args .task .streams * begin t a .args .task .width)) (sym (r .1)) (leaf-placed (child-in h (more t a)) (r .2)),
+      rw (c .before .counted .ensures .2, c .before .counted .ensures .3) (h .limited),
+    ))
     (λ c. omega (arith, c .before .before .take-leaf .ensures .2))
     (λ c. omega (arith, c .before .before .before .take-leaf .ensures .2))
     (λ c. le-refl _)
