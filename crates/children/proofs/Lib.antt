@@ -1,4 +1,4 @@
 -- Laws on a node and its children, which code's proofs cite.
 pub mod Rows
-pub mod Kids
 pub mod Nodes
+pub mod Kids

@@ -1,24 +1,26 @@
--- A node's children before the first of them is tried: all would be cut, or so many pass and nothing below them, or their keys.
+-- A node's children before the first of them is tried: all would be cut, or their keys are filled in.
 use Prim.Native.Nat.{ℕ, suc, _+_, _-_, _*_, _≤_, _<_, _^_, max}
 use mathlib.Core.Path.{_≡_}
+use mathlib.Core.Bool.{Bool, true, false, not, _&&_, _||_, cond}
 use mathlib.Core.List.{List}
 use lib.IntN.{ℤ, natAbs}
-use lib.ListN.{length, getD}
-use Rattle.model.specs.Constellation.{bitsOf}
+use lib.Dec.{eqb}
+use lib.ListN.{length, getD, replicate}
+use Rattle.model.specs.Constellation.{Complex, bitsOf}
 use Rattle.constellation.specs.Points.{Points, complexOf}
-use Rattle.metric.specs.Rows.{rowAt, remainderOf, Measured, childOf}
-use Rattle.metric.specs.Tables.{Tabled}
+use Rattle.metric.specs.Rows.{rowAt, remainderOf, childOf}
+use Rattle.metric.specs.Parts.{span}
+use Rattle.metric.specs.Tables.{axisPlace, tablePart, partsIn, Tabled}
+use Rattle.metric.specs.Tables.Axis.{real, imaginary}
 use Rattle.pruning.specs.Program.{above, largestPartial, chosen}
 use Rattle.cutoff.specs.Cut.{Beyond}
-use Rattle.cutoff.specs.declared.Bounds.{Bounds}
+use Rattle.cutoff.specs.Axes.{pricedBy}
+use Rattle.cutoff.specs.Answers.{opensBy, opensByParts}
 use Rattle.reach.specs.Reach.{firstPlace, entriesOf, symbolOf}
-use Rattle.siblings.specs.Rows.{keyCount, RowLeast}
-use Rattle.tally.specs.Tally.{childPasses, IdleBelow, CountedTo}
+use Rattle.siblings.specs.Rows.{keyCount, keysIn, RowLeast}
 use Rattle.leaves.specs.Limits.{vectorAt, SearchAsked, LimitsAsked}
 use Rattle.leaves.specs.declared.Sizes.{Sizes}
 use Rattle.children.specs.declared.Node.{Node}
-use Rattle.children.specs.declared.Children.{Children}
-use Rattle.children.specs.declared.Children.the-variants.{Nothing, Number, Keys}
 
 -- A node of a vector that a search may be asked for
 pub record NodeIn (m q clip : ℕ) (numbers : List ℤ) (n : Node) : Type 0 where
@@ -58,29 +60,20 @@ abbrev pub Shut : ℕ → ℕ → List ℤ → Node → ℕ → ℕ → List ℕ
 Shut m q numbers n label best limits =
     (s : ℕ) → s < 2 ^ q → WouldCut m q (n .level) (n .chosen) label best limits (kidOf m q numbers n s) s
 
--- What a node's children are held against
-abbrev pub boundsOf : ℕ → List ℕ → Node → Bounds
-boundsOf best limits n = record {
-  best = best;
-  free = getD limits (firstPlace (n .level - 1)) 0;
-  chosen = n .chosen;
-  cap = getD limits (firstPlace (n .level)) 0;
-}
+-- May a child of a node pass, as it is found: by the distances, and of a parent of leaves, where there are prior costs, by the parts too
+unfoldable pub opensAt : ℕ → ℕ → List ℤ → List ℤ → Node → ℕ → ℕ → ℤ → ℤ → List ℕ → Bool
+opensAt m q numbers tables n label best re im limits =
+    let row = n .level - 1 in
+    let base = baseOf best limits (n .chosen) (n .level) in
+    let own = symbolOf m q label row in
+    opensBy m q row re im (n .partial) base numbers (entriesOf limits row) own
+    && (not (eqb row 0 && pricedBy q tables row)
+    || opensByParts q (n .partial) base (tablePart tables (axisPlace row real) re) (tablePart tables (axisPlace row imaginary) im)
+    (entriesOf limits row) own)
 
--- What counting a node's children asks: the parts of their axes are measured
-pub record BelowAsked (t : Sizes) (points numbers tables : List ℤ) (n : Node) (best : ℕ) (limits axes : List ℕ) : Type 0 where
-  pub node : NodeIn (t .streams) (t .width) (t .clip) numbers n
-  pub limited : LimitsAsked (t .streams) (t .width) limits
-  pub lowest : best ≤ above
-  pub measured : Measured (t .streams) (t .width) numbers (n .level - 1) (n .bits) axes
-  pub tabled : Tabled (t .streams) (t .width) numbers tables
-  pub pointed : Points (t .width) points
-
--- As many children of a node pass, and below each of these every child would be cut
-pub record BelowCounted (m q : ℕ) (numbers : List ℤ) (n : Node) (label best : ℕ) (limits : List ℕ) (count : ℕ) : Type 0 where
-  pub above-leaves : 2 ≤ n .level
-  pub counted : CountedTo (childPasses m q (n .level) (boundsOf best limits n) label limits (kidOf m q numbers n))
-      (IdleBelow m q (n .level) (n .bits) (boundsOf best limits n) label numbers limits (kidOf m q numbers n)) (2 ^ q) count
+-- What remains of y in the row of a node's children
+abbrev pub leftOf : ℕ → ℕ → List ℤ → Node → Complex
+leftOf m q numbers n = remainderOf q (rowAt m q numbers (n .level - 1)) (bitsOf ((m - suc (n .level - 1)) * q) (n .bits))
 
 -- What looking at a node's children asks
 pub record ExpandAsked (t : Sizes) (points numbers tables : List ℤ) (n : Node) (best : ℕ) (limits keys : List ℕ) : Type 0 where
@@ -97,8 +90,23 @@ pub record Filled (m q : ℕ) (numbers : List ℤ) (n : Node) (keys : List ℕ) 
   pub each : (s : ℕ) → s < 2 ^ q → getD keys s 0 ≡ kidOf m q numbers n s
   pub rows : RowLeast q keys
 
--- What is found of them
-abbrev pub Expanded : ℕ → ℕ → List ℤ → Node → ℕ → ℕ → List ℕ → List ℕ → Children → Type 0
-Expanded m q numbers n label best limits new Nothing = Shut m q numbers n label best limits
-Expanded m q numbers n label best limits new (Number count) = BelowCounted m q numbers n label best limits count
-Expanded m q numbers n label best limits new Keys = Filled m q numbers n new
+-- What is found of them: whether their keys are
+abbrev pub Expanded : ℕ → ℕ → List ℤ → Node → ℕ → ℕ → List ℕ → List ℕ → Bool → Type 0
+Expanded m q numbers n label best limits new false = Shut m q numbers n label best limits
+Expanded m q numbers n label best limits new true = Filled m q numbers n new
+
+-- The test's answer, and the keys with those of a node's children filled in
+abbrev pub mayPass : ℕ → ℕ → List ℤ → List ℤ → Node → ℕ → ℕ → List ℕ → Bool
+mayPass m q numbers tables n label best limits =
+    let left = leftOf m q numbers n in
+    opensAt m q numbers tables n label best (left .re) (left .im) limits
+
+unfoldable pub keysFor : ℕ → ℕ → List ℤ → List ℤ → Node → List ℕ → List ℕ
+keysFor m q numbers tables n keys =
+    let left = leftOf m q numbers n in
+    keysIn q (n .partial) (partsIn q tables (n .level - 1) (left .re) (left .im) (replicate (2 * span) 0)) keys
+
+-- The answer, and the whole of the keys: where a child may pass those of all are filled in, else they are as before
+pub record Told (m q : ℕ) (numbers tables : List ℤ) (n : Node) (label best : ℕ) (limits old new : List ℕ) (r : Bool) : Type 0 where
+  pub answer : r ≡ mayPass m q numbers tables n label best limits
+  pub keys : new ≡ cond r (keysFor m q numbers tables n old) old

@@ -1,23 +1,19 @@
-// What is found of a node's children before the first of them is tried: all of them would be cut; so many pass, and nothing does below any of
-// these; or their keys are filled in.
+// What is found of a node's children before the first of them is tried: all of them would be cut, or their keys are filled in.
 use constellation::PLACES;
-use cutoff::Bounds;
 use leaves::Kept;
 use leaves::Sizes;
 use metric::AXES;
 use metric::Complex;
 use metric::Shape;
 use metric::TABLE;
-use siblings::ABOVE;
-use tally::Counted;
 ghost use mathlib.Core.Path.{_≡_};
-ghost use mathlib.Core.Bool.{true, false};
+ghost use mathlib.Core.Bool.{true};
 ghost use Prim.Native.Nat.{_-_, _*_, _<_, _≤_, _^_};
 ghost use lib.ListN.{length};
 ghost use Rattle.model.specs.Block.{mostStreams, mostWidth, mostBits};
 ghost use Rattle.pruning.specs.Program.{above};
 ghost use Rattle.reach.specs.Reach.{limitsSize, symbolOf};
-ghost use Rattle.children.specs.Expand.{baseOf, OpenAsked, Shut, BelowAsked, BelowCounted, ExpandAsked, Expanded};
+ghost use Rattle.children.specs.Expand.{baseOf, OpenAsked, opensAt, ExpandAsked, Told};
 
 // A node: how many streams are not chosen yet, its partial metric, the widest limit of those of its bits that are opposite to the best
 // label's, and the bits that are chosen, as a number.
@@ -26,13 +22,6 @@ pub struct Node {
     pub partial: u64,
     pub chosen: u64,
     pub bits: u32,
-}
-
-// What is found of a node's children: all of them would be cut; so many pass, below which nothing does; or their keys are filled in.
-pub enum Children {
-    Nothing,
-    Number(u32),
-    Keys,
 }
 
 // What all children of a node are held against: below it each of them passes.
@@ -66,8 +55,8 @@ fn opens(
     limits: &[u64],
 ) -> bool
     requires { ⌜ OpenAsked sizes (now numbers) (now tables) node (kept .best) (left .re) (left .im) (now limits) ⌝ }
-    ensures { λ r. ⌜ (r ≡ false → Shut (sizes .streams) (sizes .width) (now (numbers .entry)) node (kept .label) (kept .best)
-        (now (limits .entry))) ⌝ }
+    ensures { λ r. ⌜ r ≡ opensAt (sizes .streams) (sizes .width) (now (numbers .entry)) (now (tables .entry)) node (kept .label) (kept .best)
+        (left .re) (left .im) (now (limits .entry)) ⌝ }
 {
     let shape = Shape {
         streams: sizes.streams,
@@ -104,55 +93,7 @@ fn opens(
     )
 }
 
-// How many of a node's children pass, where nothing does below any of them, by the parts of their two axes; asked only of parents of parents
-// of leaves, and only after the first leaf: elsewhere that is seldom so.
-fn count_below(
-    sizes: Sizes,
-    node: Node,
-    kept: Kept,
-    points: &[i8; PLACES],
-    numbers: &[i32],
-    tables: &[i32; TABLE],
-    limits: &[u64],
-    axes: &[u64; AXES],
-) -> Counted
-    requires { ⌜ BelowAsked sizes (now points) (now numbers) (now tables) node (kept .best) (now limits) (now axes) ⌝ }
-    ensures { λ r. ⌜ (r .sure ≡ true → BelowCounted (sizes .streams) (sizes .width) (now (numbers .entry)) node (kept .label) (kept .best)
-        (now (limits .entry)) (r .count)) ⌝ }
-{
-    if node.level != 2 || kept.best == ABOVE {
-        return Counted {
-            sure: false,
-            count: 0,
-        };
-    }
-    let shape = Shape {
-        streams: sizes.streams,
-        width: sizes.width,
-    };
-    let bounds = Bounds {
-        best: kept.best,
-        free: limits[reach::FIRST + (node.level - 1)],
-        chosen: node.chosen,
-        cap: limits[reach::FIRST + node.level],
-    };
-    tally::count_passing(
-        shape,
-        node.level,
-        node.bits,
-        node.partial,
-        bounds,
-        kept.label,
-        points,
-        numbers,
-        tables,
-        limits,
-        axes,
-    )
-}
-
-// What is found of a node's children. Their parts are made only where one may pass, and their keys only where the search has more to do than
-// to count them.
+// Where a child of a node may pass the keys of all of them are filled in; else nothing of them is measured, and the answer is false.
 pub fn expand(
     sizes: Sizes,
     node: Node,
@@ -162,15 +103,15 @@ pub fn expand(
     tables: &[i32; TABLE],
     limits: &[u64],
     keys: &mut [u64],
-) -> Children
+) -> bool
     requires { ⌜ ExpandAsked sizes (now points) (now numbers) (now tables) node (kept .best) (now limits) (now keys) ⌝ }
-    ensures { λ r. ⌜ Expanded (sizes .streams) (sizes .width) (now (numbers .entry)) node (kept .label) (kept .best)
-        (now (limits .entry)) (now (keys .exit)) r ⌝ }
+    ensures { λ r. ⌜ Told (sizes .streams) (sizes .width) (now (numbers .entry)) (now (tables .entry)) node (kept .label) (kept .best)
+        (now (limits .entry)) (now (keys .entry)) (now (keys .exit)) r ⌝ }
 {
     let row = node.level - 1;
     let left = metric::remainder(points, numbers, sizes.streams, sizes.width, row, node.bits);
     if !opens(sizes, node, kept, left, numbers, tables, limits) {
-        return Children::Nothing;
+        return false;
     }
     let shape = Shape {
         streams: sizes.streams,
@@ -178,10 +119,6 @@ pub fn expand(
     };
     let mut axes = [0u64; AXES];
     metric::fill_parts(shape, row, left, numbers, tables, &mut axes);
-    let below = count_below(sizes, node, kept, points, numbers, tables, limits, &axes);
-    if below.sure {
-        return Children::Number(below.count);
-    }
     siblings::fill(sizes.width, node.partial, &axes, keys);
-    Children::Keys
+    true
 }

@@ -17,7 +17,8 @@ use Rattle.metric.specs.Parts.{bitOf, axisDistance}
 use Rattle.metric.proofs.Folds.{fold-nearer, beyond-fold}
 use Rattle.metric.proofs.Bridge.{distance-near}
 use Rattle.metric.proofs.Opposite.{xor-opposite}
-use Rattle.cutoff.specs.Axes.{NoneOver, BitAsked}
+use Rattle.cutoff.specs.Axes.{BitAsked}
+use Rattle.cutoff.proofs.Runs.{NoneOver}
 
 -- Once the folds have left k bits of w, x is no further away from a label's last k bits than `left` is from the label
 abbrev pub NoFurther : ℤ → ℕ → ℕ → ℤ → ℕ → Type 0

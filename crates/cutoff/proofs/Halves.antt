@@ -14,8 +14,8 @@ use Rattle.metric.specs.Tables.Axis.{imaginary}
 use Rattle.metric.proofs.Tables.{axis-few}
 use Rattle.model.proofs.Numbers.{first-half}
 use Rattle.cutoff.specs.Cut.{symbolReach, Beyond}
-use Rattle.cutoff.specs.Axes.{NoneOver, WidestLast}
-use Rattle.cutoff.proofs.Runs.{labels-few}
+use Rattle.cutoff.specs.Axes.{WidestLast}
+use Rattle.cutoff.proofs.Runs.{NoneOver, labels-few}
 
 pub imaginary-lt : (q s : ℕ) → s % 2 ^ (q / 2) < 2 ^ (q / 2)
 imaginary-lt q s = mod-lt s (pow-pos (q / 2))

@@ -1,15 +1,17 @@
 -- What is known of the children by the distances alone: no label's squared distance is below the square of the nearest on its axis, and no
 -- child's partial metric is below what the squared distances of its two labels come to.
-use Prim.Native.Nat.{ℕ, suc, _+_, _-_, _*_, _/_, _%_, _^_, _≤_, _<_}
+use Prim.Native.Nat.{ℕ, zero, suc, _+_, _-_, _*_, _/_, _%_, _^_, _≤_, _<_}
 use mathlib.Core.Path.{_≡_}
 use mathlib.Core.List.{List}
 use native.Mathlib.Nat.{mul-le-mul}
 use native.Mathlib.Omega.{arith}
 use lib.IntN.{ℤ, pos, natAbs}
 use lib.ListN.{getD}
+use lib.Pow.{pow-mono}
 use Rattle.model.specs.Constellation.{bitsOf}
+use Rattle.model.specs.Block.{mostEntry}
 use Rattle.constellation.specs.Points.{complexOf}
-use Rattle.metric.specs.Parts.{span, axisDistance, nearestOf}
+use Rattle.metric.specs.Parts.{axisWidth, span, axisDistance, nearestOf}
 use Rattle.metric.specs.Rows.{rowStart, rowAt, remainderOf, childOf}
 use Rattle.metric.specs.Tables.{Axis, axisBits}
 use Rattle.metric.specs.Tables.Axis.{real, imaginary}
@@ -17,12 +19,21 @@ use Rattle.metric.proofs.Bridge.{distance-near, child-distances}
 use Rattle.metric.proofs.Rows.{diagonal-within}
 use Rattle.metric.proofs.Tables.{axis-few}
 use Rattle.cutoff.specs.Cut.{OpensAsked, Beyond}
-use Rattle.cutoff.specs.Axes.{NoneOver, WidestLast, ByBits, BitAsked}
+use Rattle.cutoff.specs.Axes.{WidestLast, ByBits, BitAsked}
+use Rattle.cutoff.proofs.Runs.{NoneOver}
 use Rattle.cutoff.proofs.Halves.{none-wider, parts-beyond, beyond-more}
 
 -- A distance's square
 pub square-small : (n : ℕ) → n < 2 ^ 30 → n * n < 2 ^ 60
 square-small n h = let k : n ≤ 2 ^ 30 - 1 = omega arith in omega (arith, mul-le-mul k k)
+
+-- The nearest distance stays in its range
+pub near-small : (diagonal w d : ℕ) → diagonal ≤ mostEntry → w ≤ axisWidth → d < 2 ^ 30 → nearestOf diagonal w d < 2 ^ 30
+unfolding nearestOf
+near-small diagonal zero d h k l = l
+near-small diagonal (suc w) d h k l =
+    let few : w ≤ axisWidth = omega arith in
+    near-small diagonal w _ h few (omega (arith, mul-le-mul h (pow-mono {j = axisWidth} few)))
 
 -- Where an axis's entries begin among a stream's
 abbrev pub entriesFrom : Axis → ℕ

@@ -1,16 +1,18 @@
 -- What the test by the parts asks, and what it says of the children, where the tables are those of a vector.
 use Prim.Native.Nat.{ℕ, suc, _-_, _*_, _^_, _<_}
 use mathlib.Core.Path.{_≡_}
+use mathlib.Core.Bool.{false}
 use mathlib.Core.List.{List}
 use lib.IntN.{ℤ}
 use Rattle.model.specs.Constellation.{bitsOf}
 use Rattle.constellation.specs.Points.{complexOf}
-use Rattle.metric.specs.Parts.{childMetric}
 use Rattle.metric.specs.Rows.{rowAt, remainderOf, childOf}
 use Rattle.metric.specs.Tables.{axisPlace, tablePart, Tabled}
 use Rattle.metric.specs.Tables.Axis.{real, imaginary}
 use Rattle.metric.proofs.Bridge.{axis-asked, part-small, child-parts}
 use Rattle.cutoff.specs.Cut.{OpensAsked, TableAsked, Beyond}
+use Rattle.cutoff.specs.Answers.{opensByParts}
+use Rattle.cutoff.proofs.Answers.{parts-all-shut}
 
 module _ {m q row : ℕ} {re im : ℤ} {partial : ℕ} {numbers tables : List ℤ} {entries : List ℕ} {own : ℕ}
     (asked : OpensAsked m q row re im partial numbers entries own) (tabled : Tabled m q numbers tables) where
@@ -32,13 +34,11 @@ module _ {m q row : ℕ} {re im : ℤ} {partial : ℕ} {numbers tables : List �
     symbol = asked .symbol;
   }
 
-  -- Children that would be cut by the parts of the tables would be cut
+  -- Where it is false every child would be cut
   pub parts-cut : (base : ℕ)
-      → ((s : ℕ) → s < 2 ^ q
-      → Beyond q base entries own
-      (childMetric q partial (tablePart tables (axisPlace row real) re) (tablePart tables (axisPlace row imaginary) im) s) s)
+      → opensByParts q partial base (tablePart tables (axisPlace row real) re) (tablePart tables (axisPlace row imaginary) im) entries own ≡ false
       → (node : ℕ) → complexOf re im ≡ remainderOf q (rowAt m q numbers row) (bitsOf ((m - suc row) * q) node)
       → (s : ℕ) → s < 2 ^ q → Beyond q base entries own (childOf m q numbers row node partial s) s
-  parts-cut base cut node is s h =
+  parts-cut base shut node is s h =
       rw (child-parts (asked .vector) row (asked .inside) node (complexOf re im) is tabled (asked .low-re) (asked .low-im) partial s h)
-      (cut s h)
+      (parts-all-shut q partial base _ _ entries own (parts-asked .first .small) (parts-asked .second .small) (asked .widest) (asked .symbol) shut s h)

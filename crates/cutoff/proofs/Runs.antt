@@ -7,11 +7,21 @@ use native.Mathlib.Nat.{eq-or-lt-of-le}
 use native.Mathlib.Omega.{arith}
 use lib.Bits.{bitXor, xor-lt}
 use lib.IntN.{ℤ}
+use lib.ListN.{getD}
 use lib.Pow.{pow-pos, pow-mono}
 use Rattle.metric.specs.Parts.{axisWidth, span}
 use Rattle.metric.specs.Tables.{AxisAsked}
 use Rattle.metric.proofs.Shifts.{one-shifted}
-use Rattle.cutoff.specs.Axes.{LabelAsked, LeastOf}
+use Rattle.cutoff.specs.Axes.{LabelAsked}
+
+-- No part, with what is added, is below the widest limit of the bits in which its label differs from `own`
+abbrev pub NoneOver : List ℕ → ℕ → ℕ → (ℕ → ℕ) → ℕ → ℕ → Type 0
+NoneOver entries from n part other own = (g : ℕ) → g < n → getD entries (from + bitXor g own) 0 ≤ other + part g
+
+-- None of the parts of n labels is below the least, and it is small too
+pub record LeastOf (part : ℕ → ℕ) (n least : ℕ) : Type 0 where
+  pub low : least < 2 ^ 62
+  pub least-le : (g : ℕ) → g < n → least ≤ part g
 
 -- What the first g labels and label g have, the first g + 1 have
 pub one-more : (P : ℕ → Type 0) (g : ℕ) → ((i : ℕ) → i < g → P i) → P g → (i : ℕ) → i < g + 1 → P i

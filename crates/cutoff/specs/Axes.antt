@@ -1,9 +1,8 @@
--- What the functions of the test ask and say of the parts of one axis.
+-- What the functions of the test ask of one axis, and whether its labels have costs.
 use Prim.Native.Nat.{ℕ, suc, _+_, _-_, _*_, _^_, _≤_, _<_}
 use mathlib.Core.Path.{_≡_}
 use mathlib.Core.Bool.{Bool, true, not, _||_}
 use mathlib.Core.List.{List}
-use lib.Bits.{bitXor}
 use lib.Dec.{eqb}
 use lib.IntN.{ℤ, pos, natAbs}
 use lib.ListN.{length, getD}
@@ -11,10 +10,6 @@ use Rattle.model.specs.Block.{mostEntry}
 use Rattle.metric.specs.Parts.{axisWidth, span, nearestOf, bitOf}
 use Rattle.metric.specs.Tables.{tableSize, axisPlace, axisBits, tablePart, AxisAsked}
 use Rattle.metric.specs.Tables.Axis.{real, imaginary}
-
--- No part, with what is added, is below the widest limit of the bits in which its label differs from `own`
-abbrev pub NoneOver : List ℕ → ℕ → ℕ → (ℕ → ℕ) → ℕ → ℕ → Type 0
-NoneOver entries from n part other own = (g : ℕ) → g < n → getD entries (from + bitXor g own) 0 ≤ other + part g
 
 -- Of the entries of an axis of w bits, which stand from a place on, the last, that of the label whose bits are all 1, is the widest
 abbrev pub WidestLast : List ℕ → ℕ → ℕ → Type 0
@@ -45,11 +40,6 @@ pub record PartAsked (tables : List ℤ) (at : ℕ) (left : ℤ) (w other : ℕ)
   pub place : from ≤ span
   pub stream : length entries ≡ 2 * span
   pub label : own < 2 ^ w
-
--- None of the parts of n labels is below the least, and it is small too
-pub record LeastOf (part : ℕ → ℕ) (n least : ℕ) : Type 0 where
-  pub low : least < 2 ^ 62
-  pub least-le : (g : ℕ) → g < n → least ≤ part g
 
 -- What holding the limits of an axis's bits against the nearest distances asks: `other` is added to a squared distance, `low` is what the
 -- nearest of all comes to, and `own` is the best label's

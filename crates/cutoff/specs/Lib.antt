@@ -1,2 +1,3 @@
 pub mod Cut
 pub mod Axes
+pub mod Answers

@@ -5,30 +5,18 @@ use metric::Complex;
 use metric::Shape;
 use metric::TABLE;
 ghost use mathlib.Core.Path.{_≡_};
-ghost use mathlib.Core.Bool.{true, false, cond, Bool·beq};
-ghost use Prim.Native.Nat.{ℕ, suc, _+_, _*_, _-_, _<_, _≤_, _^_};
-ghost use lib.IntN.{pos};
+ghost use mathlib.Core.Bool.{cond, Bool·beq};
+ghost use Prim.Native.Nat.{_+_, _*_, _-_, _<_, _≤_, _^_};
 ghost use Rattle.model.specs.Block.{mostStreams, mostWidth};
-ghost use Rattle.model.specs.Constellation.{bitsOf};
-ghost use Rattle.constellation.specs.Points.{complexOf};
-ghost use Rattle.metric.specs.Parts.{axisWidth, span, axisDistance, childMetric};
-ghost use Rattle.metric.specs.Rows.{rowAt, remainderOf, childOf};
+ghost use Rattle.metric.specs.Parts.{axisWidth, span};
 ghost use Rattle.metric.specs.Tables.{tableSize, axisPlace, tablePart};
 ghost use Rattle.metric.specs.Tables.Axis.{real, imaginary};
-ghost use Rattle.cutoff.specs.Cut.{Beyond, OpensAsked, TableAsked};
-ghost use Rattle.cutoff.specs.Axes.{NoneOver, BitAsked, LabelAsked, PartAsked, LeastAsked, LeastOf, axisPriced, pricedBy};
+ghost use Rattle.cutoff.specs.Cut.{OpensAsked, TableAsked};
+ghost use Rattle.cutoff.specs.Axes.{BitAsked, LabelAsked, PartAsked, LeastAsked, axisPriced, pricedBy};
+ghost use Rattle.cutoff.specs.Answers.{anyBit, anyPart, leastPart, opensBy, opensByParts};
 
 // How many labels the widest axis has: the place of the imaginary axis's parts, and of its entries.
 const SPAN: usize = AXES / 2;
-
-// What a node's children are held against: B, the widest limit of the bits that are not chosen, that of the chosen bits that are opposite to
-// the best label's, and `cap`, the widest of the children's streams and those before.
-pub struct Bounds {
-    pub best: u64,
-    pub free: u64,
-    pub chosen: u64,
-    pub cap: u64,
-}
 
 // The least that a label can come to whose bit is opposite to `bit`, where the axis is folded: what remains there is below 0 on the side of the
 // bit 0. On the near side that is `low`, what the nearest label of all comes to, and on the other side `beyond`.
@@ -52,7 +40,7 @@ fn any_bit(
     own: usize,
 ) -> bool
     requires { ⌜ BitAsked left diagonal w other low (now entries) from own ⌝ }
-    ensures { λ r. ⌜ (r ≡ false → NoneOver (now (entries .entry)) from (2 ^ w) (axisDistance left (pos diagonal) w) other own) ⌝ }
+    ensures { λ r. ⌜ r ≡ anyBit left diagonal w other low (now (entries .entry)) from own ⌝ }
 {
     if low < entries[from] {
         return true;
@@ -86,7 +74,7 @@ fn any_bit_of(
     own: usize,
 ) -> bool
     requires { ⌜ BitAsked left diagonal w other low (now entries) from own ⌝ }
-    ensures { λ r. ⌜ (r ≡ false → NoneOver (now (entries .entry)) from (2 ^ w) (axisDistance left (pos diagonal) w) other own) ⌝ }
+    ensures { λ r. ⌜ r ≡ anyBit left diagonal w other low (now (entries .entry)) from own ⌝ }
 {
     if w == 3 {
         return any_bit(left, diagonal, 3, other, low, entries, from, own);
@@ -117,12 +105,8 @@ pub fn opens(
     own: usize,
 ) -> bool
     requires { ⌜ OpensAsked (shape .streams) (shape .width) row (left .re) (left .im) partial (now numbers) (now entries) own ⌝ }
-    ensures { λ r. ⌜ (r ≡ false → (node : ℕ) → complexOf (left .re) (left .im)
-        ≡ remainderOf (shape .width) (rowAt (shape .streams) (shape .width) (now (numbers .entry)) row)
-        (bitsOf ((shape .streams - suc row) * shape .width) node)
-        → (s : ℕ) → s < 2 ^ shape .width
-        → Beyond (shape .width) base (now (entries .entry)) own
-        (childOf (shape .streams) (shape .width) (now (numbers .entry)) row node partial s) s) ⌝ }
+    ensures { λ r. ⌜ r ≡ opensBy (shape .streams) (shape .width) row (left .re) (left .im) partial base (now (numbers .entry))
+        (now (entries .entry)) own ⌝ }
 {
     let q = shape.width;
     let w = q - q / 2;
@@ -171,7 +155,7 @@ fn any_part(
     own: usize,
 ) -> bool
     requires { ⌜ PartAsked (now tables) at left w other (now entries) from own ⌝ }
-    ensures { λ r. ⌜ (r ≡ false → NoneOver (now (entries .entry)) from (2 ^ w) (tablePart (now (tables .entry)) at left) other own) ⌝ }
+    ensures { λ r. ⌜ r ≡ anyPart (now (entries .entry)) from (tablePart (now (tables .entry)) at left) other own 0 (2 ^ w) ⌝ }
 {
     let n: usize = 1 << w;
     let mut g = 0;
@@ -197,7 +181,7 @@ fn any_part_of(
     own: usize,
 ) -> bool
     requires { ⌜ PartAsked (now tables) at left w other (now entries) from own ⌝ }
-    ensures { λ r. ⌜ (r ≡ false → NoneOver (now (entries .entry)) from (2 ^ w) (tablePart (now (tables .entry)) at left) other own) ⌝ }
+    ensures { λ r. ⌜ r ≡ anyPart (now (entries .entry)) from (tablePart (now (tables .entry)) at left) other own 0 (2 ^ w) ⌝ }
 {
     if w == 3 {
         return any_part(tables, at, left, 3, other, entries, from, own);
@@ -214,7 +198,7 @@ fn any_part_of(
 // The least part of an axis of w bits. The parts are made as they are asked for.
 fn least_among(tables: &[i32; TABLE], at: usize, left: i64, w: usize) -> u64
     requires { ⌜ LeastAsked (now tables) at left w ⌝ }
-    ensures { λ r. ⌜ LeastOf (tablePart (now (tables .entry)) at left) (2 ^ w) r ⌝ }
+    ensures { λ r. ⌜ r ≡ leastPart (tablePart (now (tables .entry)) at left) (2 ^ w - 1) ⌝ }
 {
     let n: usize = 1 << w;
     let mut least = part_at(tables, at, left, 0);
@@ -232,7 +216,7 @@ fn least_among(tables: &[i32; TABLE], at: usize, left: i64, w: usize) -> u64
 // The same; the compiler is told of three bits and of two here too.
 fn least_part(tables: &[i32; TABLE], at: usize, left: i64, w: usize) -> u64
     requires { ⌜ LeastAsked (now tables) at left w ⌝ }
-    ensures { λ r. ⌜ LeastOf (tablePart (now (tables .entry)) at left) (2 ^ w) r ⌝ }
+    ensures { λ r. ⌜ r ≡ leastPart (tablePart (now (tables .entry)) at left) (2 ^ w - 1) ⌝ }
 {
     if w == 3 {
         return least_among(tables, at, left, 3);
@@ -278,10 +262,8 @@ pub fn opens_by_parts(
     own: usize,
 ) -> bool
     requires { ⌜ TableAsked q row (left .re) (left .im) partial (now tables) (now entries) own ⌝ }
-    ensures { λ r. ⌜ (r ≡ false → (s : ℕ) → s < 2 ^ q
-        → Beyond q base (now (entries .entry)) own
-        (childMetric q partial (tablePart (now (tables .entry)) (axisPlace row real) (left .re))
-        (tablePart (now (tables .entry)) (axisPlace row imaginary) (left .im)) s) s) ⌝ }
+    ensures { λ r. ⌜ r ≡ opensByParts q partial base (tablePart (now (tables .entry)) (axisPlace row real) (left .re))
+        (tablePart (now (tables .entry)) (axisPlace row imaginary) (left .im)) (now (entries .entry)) own ⌝ }
 {
     let v = q / 2;
     let w = q - v;

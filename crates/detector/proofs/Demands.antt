@@ -1,15 +1,15 @@
 -- The user's demands, of every record and every buffer: a call refuses exactly under the table's conditions, and a reply meets demands 2
 -- and 3.
-use Prim.Native.Nat.{ℕ, zero, suc, _+_, _<_}
+use Prim.Native.Nat.{ℕ, zero, suc, _+_, _-_, _<_}
 use mathlib.Core.Path.{_≡_, refl, sym, _∙_, ap}
-use mathlib.Core.Bool.{Bool, true, false, cond}
+use mathlib.Core.Bool.{Bool, true, false, cond, true≢false}
 use mathlib.Core.Logic.{_↔_, _⊎_, inl, inr}
 use mathlib.Core.List.{List, [], _∷_}
 use native.Mathlib.Omega.{arith}
 use borrow.Author.Tests.{ltb-true}
 use lib.Dec.{ltb}
 use lib.ListN.{length, getD}
-use lib.IntN.{ℤ}
+use lib.IntN.{ℤ, pos, negsuc, negℤ}
 use Rattle.model.specs.Metric.{Row}
 use Rattle.model.specs.Block.{Block, vectorOf, Answer, answers}
 use Rattle.model.specs.Demand.{Demand2, ResultsFrom}
@@ -19,15 +19,16 @@ use Rattle.block.specs.Reading.{readRecord, readWhole}
 use Rattle.block.specs.Contents.{blockOf}
 use Rattle.block.specs.Conditions.{Whole}
 use Rattle.block.specs.declared.Refusal.{Refusal}
-use Rattle.block.specs.declared.Refusal.the-variants.{Buffer}
+use Rattle.block.specs.declared.Refusal.the-variants.{Opening, Ends, Malformed, Streams, Width, Vectors, Clip, Share, Diagonal, Entry, Received, Prior, Trailing, Buffer, Crowded}
 use Rattle.block.specs.declared.Read.{Read}
 use Rattle.block.specs.declared.Read.the-variants.{Ended, Refused}
 use Rattle.block.proofs.Fillings.{not-both}
 use Rattle.block.proofs.Conditions.{turned-back, whole-read, read-whole, whole-in-range}
 use Rattle.detector.specs.Reply.{replyOf, replyRoom}
-use Rattle.block.specs.Filling.{Filling, refused, filled}
+use Rattle.block.specs.Filling.{Filling, refused, filled, returned, bufferAfter}
+use Rattle.block.specs.Table.{refusalNumber}
 use Rattle.detector.specs.Outcome.{byRoom, byRead, outcome}
-use Rattle.detector.specs.Demand.{Condition, Accepted, nthAnswer, EachComplete}
+use Rattle.detector.specs.Demand.{Condition, Accepted, nthAnswer, EachComplete, Met}
 use Rattle.detector.proofs.Outcomes.{room-short}
 
 module _ (room : ℕ) (b : Block) where
@@ -141,3 +142,84 @@ demand2 bytes reply a =
     let b = blockOf (a .whole .numbers) in
     let each = a .demand3 .each in
     record { many = results-many b 0 (b .vectors) (answers b) each; exact = results-exact b 0 (b .vectors) (answers b) each }
+
+-- What the contract of the exported function promises of the returned number and the buffer afterwards meets the demands
+pub demands : (bytes buffer : List ℕ) (number : ℤ) (after : List ℕ) → number ≡ returned (outcome bytes (length buffer))
+    → after ≡ bufferAfter (outcome bytes (length buffer)) buffer → Met bytes buffer number after
+demands bytes buffer number after n a = go (outcome bytes (length buffer)) refl n a
+  where
+    go : (o : Filling ℕ) → outcome bytes (length buffer) ≡ o → number ≡ returned o → after ≡ bufferAfter o buffer → Met bytes buffer number after
+    go (refused r) e n a = inl (record { refusal = r; number-is = n; condition = demand1 bytes (length buffer) r .0 e; untouched = a })
+    go (filled reply) e n a =
+        let acc = demand3 bytes (length buffer) reply e in
+        inr (record {
+          reply = reply;
+          number-is = n;
+          none = λ r c. not-both (demand1 bytes (length buffer) r .1 c) e;
+          stands = a;
+          accepted = acc;
+          complete = demand2 bytes reply acc;
+        })
+
+-- The refusals in the order of their numbers
+refusals : List Refusal
+refusals =
+    Opening ∷ Ends ∷ Malformed ∷ Streams ∷ Width ∷ Vectors ∷ Clip ∷ Share ∷ Diagonal ∷ Entry ∷ Received ∷ Prior ∷ Trailing ∷ Buffer ∷ Crowded ∷ []
+
+-- The refusal that a returned number tells
+abbrev toldBy : ℤ → Refusal
+toldBy (pos n) = Opening
+toldBy (negsuc n) = getD refusals n Opening
+
+told : (r : Refusal) → toldBy (negℤ (pos (refusalNumber r))) ≡ r
+unfolding refusals
+told Opening = refl
+told Ends = refl
+told Malformed = refl
+told Streams = refl
+told Width = refl
+told Vectors = refl
+told Clip = refl
+told Share = refl
+told Diagonal = refl
+told Entry = refl
+told Received = refl
+told Prior = refl
+told Trailing = refl
+told Buffer = refl
+told Crowded = refl
+
+-- Different refusals have different numbers, so that the returned number tells which it is
+pub number-tells : (r s : Refusal) → negℤ (pos (refusalNumber r)) ≡ negℤ (pos (refusalNumber s)) → r ≡ s
+number-tells r s e = sym (told r) ∙ ap toldBy e ∙ told s
+
+-- Is a number below 0?
+abbrev isNegative : ℤ → Bool
+isNegative (pos n) = false
+isNegative (negsuc n) = true
+
+negative : (r : Refusal) → isNegative (negℤ (pos (refusalNumber r))) ≡ true
+negative Opening = refl
+negative Ends = refl
+negative Malformed = refl
+negative Streams = refl
+negative Width = refl
+negative Vectors = refl
+negative Clip = refl
+negative Share = refl
+negative Diagonal = refl
+negative Entry = refl
+negative Received = refl
+negative Prior = refl
+negative Trailing = refl
+negative Buffer = refl
+negative Crowded = refl
+
+-- The returned number is minus a row's number exactly where the row's condition holds
+pub demand1-number : (bytes : List ℕ) (room : ℕ) (r : Refusal)
+    → (returned (outcome bytes room) ≡ negℤ (pos (refusalNumber r))) ↔ Condition bytes room r
+demand1-number bytes room r = (λ e. demand1 bytes room r .0 (go (outcome bytes room) e), λ c. ap returned (demand1 bytes room r .1 c))
+  where
+    go : (o : Filling ℕ) → returned o ≡ negℤ (pos (refusalNumber r)) → o ≡ refused r
+    go (refused s) e = ap refused (number-tells s r e)
+    go (filled reply) e = absurd (true≢false (sym (negative r) ∙ ap isNegative (sym e)))

@@ -4,13 +4,15 @@ use Prim.Native.Nat.{ℕ, _<_}
 use mathlib.Core.Path.{_≡_}
 use mathlib.Core.Bool.{false}
 use mathlib.Core.Logic.{_⊎_}
-use mathlib.Core.List.{List, []}
-use lib.ListN.{length, getD}
+use mathlib.Core.List.{List, [], _++_}
+use lib.IntN.{ℤ, pos, negℤ}
+use lib.ListN.{length, getD, drop}
 use Rattle.model.specs.Metric.{Vector}
 use Rattle.model.specs.Block.{Block, vectorOf, Answer, answers, InRange}
 use Rattle.model.specs.Demand.{Demand2, Demand3}
 use Rattle.block.specs.Contents.{blockOf}
 use Rattle.block.specs.Conditions.{Whole, TurnedBack}
+use Rattle.block.specs.Table.{refusalNumber}
 use Rattle.block.specs.declared.Refusal.{Refusal}
 use Rattle.block.specs.declared.Refusal.the-variants.{Buffer}
 use Rattle.detector.specs.Reply.{replyOf, replyRoom}
@@ -49,3 +51,23 @@ nthAnswer found k = getD found k noAnswer
 pub record EachComplete (b : Block) (found : List Answer) : Type 0 where
   pub many : length found ≡ length (b .vectors)
   pub exact : (k : ℕ) → k < length (b .vectors) → nthAnswer found k .stopped ≡ false → Demand2 (nthVector b k) (nthAnswer found k .result)
+
+-- A call that was refused: by the table's number, whose condition holds, over an untouched buffer
+pub record Refusing (bytes buffer : List ℕ) (number : ℤ) (after : List ℕ) : Type 0 where
+  pub refusal : Refusal
+  pub number-is : number ≡ negℤ (pos (refusalNumber refusal))
+  pub condition : Condition bytes (length buffer) refusal
+  pub untouched : after ≡ buffer
+
+-- A call that was accepted: no condition holds, the reply stands in front, every other byte is as it was, and demands 2 and 3 hold
+pub record Replying (bytes buffer : List ℕ) (number : ℤ) (after : List ℕ) : Type 0 where
+  pub reply : List ℕ
+  pub number-is : number ≡ pos (length reply)
+  pub none : (r : Refusal) → Condition bytes (length buffer) r → ⊥
+  pub stands : after ≡ reply ++ drop (length reply) buffer
+  pub accepted : Accepted bytes reply
+  pub complete : let b = blockOf (accepted .whole .numbers) in EachComplete b (answers b)
+
+-- The user's demands, of a record, a buffer, the returned number and the buffer afterwards
+abbrev pub Met : List ℕ → List ℕ → ℤ → List ℕ → Type 0
+Met bytes buffer number after = Refusing bytes buffer number after ⊎ Replying bytes buffer number after

@@ -1,5 +1,5 @@
 -- A leaf is taken: its metric lowers the minima of its bits, each on its side; then the limits behind them are renewed.
-use Prim.Native.Nat.{ℕ, _+_, _<_, _≤_, min}
+use Prim.Native.Nat.{ℕ, _+_, _*_, _<_, _≤_, min}
 use mathlib.Core.Path.{_≡_, refl, sym, _∙_, ap}
 use mathlib.Core.Bool.{Bool, true, false, cond, _&&_, _||_, Bool·beq, true≢false}
 use mathlib.Core.List.{List}
@@ -11,7 +11,7 @@ use lib.Seq.{take-set-lt, take-set-le, drop-set-lt, drop-set-add}
 use Rattle.model.specs.Block.{mostBits}
 use Rattle.model.specs.Metric.{Vector, labelBits}
 use Rattle.metric.specs.Parts.{bitOf, filled}
-use Rattle.pruning.specs.Program.{takenOf, takenIn, zerosOf, onesOf, sooner, noted}
+use Rattle.pruning.specs.Program.{takenOf, takenIn, zerosOf, onesOf, limitsOf, sooner, noted}
 use Rattle.pruning.proofs.Minima.{zero-at, one-at}
 use Rattle.pruning.proofs.Steps.{lowered-hit, lowered-miss}
 use Rattle.leaves.specs.Limits.{minimumPlace, NotedTo, Renewed}
@@ -67,9 +67,20 @@ module _ (d node best label : ℕ) where
       go false f true k g = omega (arith, eqb-true d best k)
       go false f false k g = absurd (true≢false (sym g))
 
--- All bits, then the best label, and the limits renewed
+-- All bits, and the best label
+pub sides-noted : (v : Vector) {n node d label best : ℕ} (old sides : List ℕ) (label₀ best₀ : ℕ) → n ≡ labelBits v
+    → NotedTo n node d n old sides → label ≡ cond (sooner d node best₀ label₀) node label₀ → best ≡ min d best₀
+    → takenIn label best sides ≡ noted v node d (takenIn label₀ best₀ old)
+unfolding noted
+sides-noted v old sides label₀ best₀ en s el eb = (λ j. takenOf (el j) (eb j) (s .zeros j) (s .ones j)) ∙ rw en
+
+-- and the limits renewed
 pub leaf-noted : {v : Vector} {n node d label best : ℕ} {old sides after : List ℕ} (label₀ best₀ : ℕ) → n ≡ labelBits v
     → NotedTo n node d n old sides → label ≡ cond (sooner d node best₀ label₀) node label₀ → best ≡ min d best₀
     → Renewed v label best sides after → takenIn label best after ≡ noted v node d (takenIn label₀ best₀ old)
-unfolding noted
-leaf-noted label₀ best₀ en s el eb r = r .kept ∙ (λ j. takenOf (el j) (eb j) (s .zeros j) (s .ones j)) ∙ rw en
+leaf-noted {v} {old = old} {sides = sides} label₀ best₀ en s el eb r = r .kept ∙ sides-noted v old sides label₀ best₀ en s el eb
+
+-- The minima stand before the limits
+pub limits-kept : (old new : List ℕ) {after : List ℕ} (at u : ℕ) → limitsOf new ≡ limitsOf old → at < 2 * mostBits → after ≡ set new at u
+    → limitsOf after ≡ limitsOf old
+limits-kept old new at u before h e = ap limitsOf e ∙ drop-set-lt (2 * mostBits) new at u h ∙ before

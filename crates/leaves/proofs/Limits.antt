@@ -1,10 +1,10 @@
 -- A limit as one number says what the two bounds say together; an array that has what the limits give, and one whose places are all the
 -- same, may be lent where limits are asked.
-use Prim.Native.Nat.{ℕ, suc, _+_, _-_, _*_, _/_, _%_, _^_, _≤_, _<_, min}
+use Prim.Native.Nat.{ℕ, _+_, _-_, _*_, _^_, _≤_, _<_, min}
 use mathlib.Core.Path.{_≡_, refl, sym, _∙_, ap}
 use mathlib.Core.Bool.{Bool, true, false, cond, _&&_}
 use mathlib.Core.List.{List}
-use native.Mathlib.Nat.{add-mul, mod-lt}
+use native.Mathlib.Nat.{add-mul}
 use native.Mathlib.Omega.{arith}
 use lib.Dec.{ltb}
 use borrow.Author.Tests.{lt-ltb, le-ltb, ltb-true, ltb-false}
@@ -15,7 +15,6 @@ use lib.Pow.{pow-pos, pow-mono}
 use lib.Signed.{ltZ}
 use Rattle.model.specs.Metric.{Vector, labelBits, priorAt}
 use Rattle.model.specs.Block.{mostStreams, mostWidth}
-use Rattle.model.proofs.Numbers.{first-half}
 use Rattle.metric.specs.Parts.{axisWidth, span, bitOf}
 use Rattle.metric.specs.Tables.{Axis, axisBits}
 use Rattle.metric.specs.Tables.Axis.{real, imaginary}
@@ -23,8 +22,8 @@ use Rattle.metric.proofs.Tables.{axis-few}
 use Rattle.pruning.specs.Program.{Taken, reachOf, reaches}
 use Rattle.pruning.proofs.Reach.{widest-same}
 use Rattle.cutoff.specs.Axes.{WidestLast, ByBits}
-use Rattle.reach.specs.Reach.{limitsSize, firstPlace, entryPlace, entriesOf, axisStart, axisReach, Reaches, streamReach}
-use Rattle.reach.proofs.Passing.{entries-widest, stream-wider}
+use Rattle.reach.specs.Reach.{limitsSize, entryPlace, entriesOf, axisStart, axisReach, Reaches}
+use Rattle.reach.proofs.Passing.{entries-widest}
 use Rattle.leaves.specs.Limits.{upOf, limitAt, LimitsAsked, OwnLow, Limited}
 
 up-is : (d : ℕ) (z : ℤ) → ltZ (pos d) z ≡ ltb d (upOf z)
@@ -77,7 +76,6 @@ reached-limited few placed low made = record {
   asked = record {
     size = made .size;
     widest = λ j h. entries-widest made j h few;
-    wider = λ j s h l. stream-wider made j s h l;
   };
   own = λ _. low;
   exact = λ _. made;
@@ -111,7 +109,6 @@ module _ (m q a : ℕ) (streams : m ≤ mostStreams) (bits : q ≤ mostWidth) wh
       omega (arith, entry-at j (from + g) h (omega (arith, pow-mono few)), entry-at j from h (omega arith), none)
 
   pub all-same : LimitsAsked m q alike
-  unfolding streamReach
   all-same = record {
     size = length-replicate limitsSize a;
     widest = λ j h. record {
@@ -120,11 +117,4 @@ module _ (m q a : ℕ) (streams : m ≤ mostStreams) (bits : q ≤ mostWidth) wh
       real-bits = bits-at j 0 (axisBits q real) h (omega arith) (axis-few q real bits);
       imaginary-bits = bits-at j span (axisBits q imaginary) h (omega arith) (axis-few q imaginary bits);
     };
-    wider = λ j s h l.
-        omega (
-          arith,
-          at (entryPlace j real + s / 2 ^ (q / 2)) (omega (arith, first-half q s l, pow-mono (axis-few q real bits))),
-          at (entryPlace j imaginary + s % 2 ^ (q / 2)) (omega (arith, mod-lt s (pow-pos (q / 2)), pow-mono (axis-few q imaginary bits))),
-          at (firstPlace (suc j)) (omega arith),
-        );
   }

@@ -10,12 +10,12 @@ use Rattle.model.specs.Metric.{Vector, labelBits, priorAt}
 use Rattle.model.specs.Block.{mostBits}
 use Rattle.metric.specs.Parts.{bitOf, filled}
 use Rattle.metric.proofs.Filled.{filled-at, filled-rest, filled-length}
-use Rattle.pruning.specs.Program.{Taken, takenIn, zerosOf, onesOf, limitsOf, reachOf, loweredAt}
+use Rattle.pruning.specs.Program.{Taken, takenIn, zerosOf, onesOf, limitsOf, reachOf, loweredAt, sooner, noted}
 use Rattle.pruning.proofs.Minima.{taken-kept, limits-are, limits-whole, limits-part, limits-length}
-use Rattle.reach.specs.Reach.{limitIn, limitsSize, StandsFor, Reaches}
+use Rattle.reach.specs.Reach.{limitIn, limitsSize, StandsFor, Reaches, reachesIn}
 use Rattle.metric.proofs.Opposite.{xor-opposite}
 use Rattle.reach.proofs.Passing.{still-stands}
-use Rattle.leaves.specs.Limits.{minimaSize, upOf, limitAt, NarrowedTo, Renewed}
+use Rattle.leaves.specs.Limits.{minimaSize, upOf, limitAt, NarrowedTo, Renewed, limitsAfter}
 use Rattle.leaves.proofs.Limits.{reaches-same}
 use Rattle.leaves.proofs.Own.{zero-falls, one-falls}
 
@@ -53,11 +53,14 @@ module _ (v : Vector) (m : ℕ) (em : m ≡ length (v .rows)) (label best : ℕ)
   same : (i : ℕ) → i < m * v .width → limitIn (lentLimits mid) i ≡ limitAt v (takenIn label best after) i
   same i h = ap (λ (l : List ℕ). getD l i 0) (limits-part mid) ∙ right i h ∙ ap (λ (t : Taken). limitAt v t i) (sym kept-after)
 
+  pub limits-after : limitsOf after ≡ new
+  limits-after = ap limitsOf after-is ∙ limits-are mid (omega arith) new
+
   pub renewed : Renewed v label best mid after
   renewed = record {
     size = ap length after-is ∙ limits-whole mid (omega arith) new new-whole;
     kept = kept-after;
-    reached = rw (ap limitsOf after-is ∙ limits-are mid (omega arith) new)
+    reached = rw limits-after
         (subst (Reaches (v .width) (limitAt v (takenIn label best after)) new) em (reaches-same same gives));
   }
 
@@ -74,9 +77,12 @@ module _ (v : Vector) (m : ℕ) (few : m * v .width ≤ mostBits) (label best : 
   pub made-kept : takenIn label best mid ≡ takenIn label best old
   made-kept = ap (takenIn label best) filled-in ∙ taken-kept old (omega arith) limits label best
 
+  pub made-limits : limitsOf mid ≡ limits
+  made-limits = ap limitsOf filled-in ∙ limits-are old (omega arith) limits
+
   pub made-right : (i : ℕ) → i < m * v .width → limitIn (limitsOf mid) i ≡ limitAt v (takenIn label best mid) i
   made-right i h =
-      ap (λ (l : List ℕ). getD l i 0) (ap limitsOf filled-in ∙ limits-are old (omega arith) limits)
+      ap (λ (l : List ℕ). getD l i 0) made-limits
       ∙ filled-at (limitAt v (takenIn label best old)) (m * v .width) (limitsOf old) i 0 h (omega (arith, limits-length old, whole))
       ∙ ap (λ (t : Taken). limitAt v t i) (sym made-kept)
 
@@ -130,3 +136,22 @@ module _ (v : Vector) (m : ℕ) (em : m ≡ length (v .rows)) (few : m * v .widt
       (λ i h.
       ap (λ (l : List ℕ). getD l i 0) (limits-part mid ∙ narrowed .limits) ∙ filled-rest _ n (limitsOf old) i 0 (omega arith))
       unopposed
+
+-- The limits after a leaf, which is the best label or not
+module _ (v : Vector) (m node d : ℕ) (t : Taken) (limits : List ℕ) where
+  abbrev chosenBy : Bool → List ℕ
+  chosenBy b =
+      reachesIn (v .width)
+      (filled (cond b (limitAt v (noted v node d t)) (loweredAt (m * v .width) true (bitXor node (t .label)) d limits)) (m * v .width) limits) m
+
+  pub after-other : sooner d node (t .best) (t .label) ≡ false
+      → reachesIn (v .width) (filled (loweredAt (m * v .width) true (bitXor node (t .label)) d limits) (m * v .width) limits) m
+      ≡ limitsAfter v m node d t limits
+  unfolding limitsAfter
+  after-other e = ap chosenBy (sym e)
+
+  pub after-best : sooner d node (t .best) (t .label) ≡ true → (kept : Taken) (same : List ℕ) → kept ≡ noted v node d t → same ≡ limits
+      → reachesIn (v .width) (filled (limitAt v kept) (m * v .width) same) m ≡ limitsAfter v m node d t limits
+  unfolding limitsAfter
+  after-best e kept same ek es =
+      ap₂ (λ (k : Taken) (l : List ℕ). reachesIn (v .width) (filled (limitAt v k) (m * v .width) l) m) ek es ∙ ap chosenBy (sym e)

@@ -1,8 +1,9 @@
 -- A vector by its numbers, a bit's limit as one number, and what is kept of the leaves in one array: the minima, the limits and what these give.
-use Prim.Native.Nat.{ℕ, suc, _+_, _*_, _≤_, _<_, _^_, min}
+use Prim.Native.Nat.{ℕ, _+_, _*_, _≤_, _<_, _^_, min}
 use mathlib.Core.Path.{_≡_}
 use mathlib.Core.Bool.{Bool, true, false, cond}
 use mathlib.Core.List.{List}
+use lib.Bits.{bitXor}
 use lib.ListN.{length, getD, set}
 use lib.IntN.{ℤ, pos, negsuc}
 use Rattle.model.specs.Metric.{Vector, labelBits, priorAt}
@@ -10,9 +11,9 @@ use Rattle.model.specs.Block.{mostBits, mostClip}
 use Rattle.block.specs.Contents.{rowsOf}
 use Rattle.metric.specs.Rows.{VectorAsked}
 use Rattle.metric.specs.Parts.{bitOf, filled}
-use Rattle.pruning.specs.Program.{above, Taken, takenIn, zerosOf, onesOf, limitsOf, reachOf, loweredAt}
+use Rattle.pruning.specs.Program.{above, Taken, takenIn, zerosOf, onesOf, limitsOf, reachOf, loweredAt, sooner, noted}
 use Rattle.cutoff.specs.Cut.{Widest}
-use Rattle.reach.specs.Reach.{limitsSize, firstPlace, entriesOf, streamReach, Reaches}
+use Rattle.reach.specs.Reach.{limitsSize, entriesOf, Reaches, reachesIn}
 use Rattle.leaves.specs.declared.Sizes.{Sizes}
 
 -- The vector that m rows with q bits a symbol are, by their numbers
@@ -73,12 +74,10 @@ abbrev pub LowBeside : ℕ → ℕ → ℕ → ℕ → List ℕ → Type 0
 LowBeside n label opposed d minima =
     (i : ℕ) → i < n → bitOf n opposed i ≡ false → getD minima (minimumPlace (bitOf n label i) i) 0 ≤ d
 
--- The limits are as many as they are; of each axis's entries the last is the widest, and none is wider than its single bits; no symbol's
--- limits are wider than those of all streams up to its own
+-- The limits are as many as they are; of each axis's entries the last is the widest, and none is wider than its single bits
 pub record LimitsAsked (m q : ℕ) (limits : List ℕ) : Type 0 where
   pub size : length limits ≡ limitsSize
   pub widest : (j : ℕ) → j < m → Widest q (entriesOf limits j)
-  pub wider : (j s : ℕ) → j < m → s < 2 ^ q → streamReach q limits j s ≤ getD limits (firstPlace (suc j)) 0
 
 -- The best label's own side of each bit has no least metric above its own
 abbrev pub OwnLow : Vector → Taken → Type 0
@@ -98,3 +97,11 @@ pub record Renewed (v : Vector) (label best : ℕ) (old new : List ℕ) : Type 0
   pub size : length new ≡ length old
   pub kept : takenIn label best new ≡ takenIn label best old
   pub reached : Reaches (v .width) (limitAt v (takenIn label best new)) (limitsOf new) (length (v .rows))
+
+-- The limits with what they give, after a leaf of metric d is taken: where it is the best label all limits are made anew, and where it leaves
+-- that label those of its bits that are opposite to the label's are lowered. The places of no bit and of no label are as before
+unfoldable pub limitsAfter : Vector → ℕ → ℕ → ℕ → Taken → List ℕ → List ℕ
+limitsAfter v m node d t limits =
+    let n = m * v .width in
+    let lowered = loweredAt n true (bitXor node (t .label)) d limits in
+    reachesIn (v .width) (filled (cond (sooner d node (t .best) (t .label)) (limitAt v (noted v node d t)) lowered) n limits) m

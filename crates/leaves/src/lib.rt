@@ -13,7 +13,8 @@ ghost use Rattle.model.specs.Block.{mostBits, mostClip};
 ghost use Rattle.metric.specs.Rows.{VectorAsked};
 ghost use Rattle.metric.specs.Parts.{bitOf, filled};
 ghost use Rattle.pruning.specs.Program.{above, sideOf, valueOf, takenIn, zerosOf, onesOf, limitsOf, keptOf, reachOf, sooner, noted};
-ghost use Rattle.leaves.specs.Limits.{vectorFor, Asked, upOf, limitAt, minimaSize, minimumPlace, NotedTo, NarrowedTo, loweredBoth, LowBeside, Limited, Renewed};
+ghost use Rattle.leaves.specs.Limits.{vectorFor, Asked, upOf, limitAt, minimaSize, minimumPlace, NotedTo, NarrowedTo, loweredBoth, LowBeside, Limited, Renewed, limitsAfter};
+ghost use Rattle.reach.specs.Reach.{reachesIn};
 ghost use Rattle.leaves.specs.Values.{MinimaLow};
 
 // A vector's M, Q and C.
@@ -99,7 +100,8 @@ fn minimum_place(bit: bool, i: usize) -> usize
 // A leaf's metric is taken into the least ones of its bits, in one pass: each bit lowers the one of its side.
 fn note(n: usize, label: u32, d: u64, minima: &mut [u64])
     requires { ⌜ (n ≤ mostBits) × (length (now minima) ≡ minimaSize) ⌝ }
-    ensures { λ _. ⌜ NotedTo n label d n (now (minima .entry)) (now (minima .exit)) ⌝ }
+    ensures { λ _. ⌜ NotedTo n label d n (now (minima .entry)) (now (minima .exit))
+        × (limitsOf (now (minima .exit)) ≡ limitsOf (now (minima .entry))) ⌝ }
 {
     let mut i = 0;
     while i < n {
@@ -184,7 +186,11 @@ fn limit_all(sizes: Sizes, numbers: &[i32], best: Best, minima: &mut [u64])
 // The limits of all bits and what they give, behind the minima.
 fn renew_limits(sizes: Sizes, numbers: &[i32], best: Best, minima: &mut [u64])
     requires { ⌜ Asked sizes (now numbers) × (best .metric ≤ above) × (length (now minima) ≡ minimaSize) ⌝ }
-    ensures { λ _. ⌜ Renewed (vectorFor sizes (now (numbers .entry))) (best .label) (best .metric) (now (minima .entry)) (now (minima .exit)) ⌝ }
+    ensures { λ _. ⌜ Renewed (vectorFor sizes (now (numbers .entry))) (best .label) (best .metric) (now (minima .entry)) (now (minima .exit))
+        × (limitsOf (now (minima .exit))
+        ≡ reachesIn (sizes .width)
+        (filled (limitAt (vectorFor sizes (now (numbers .entry))) (takenIn (best .label) (best .metric) (now (minima .entry))))
+        (sizes .streams * sizes .width) (limitsOf (now (minima .entry)))) (sizes .streams)) ⌝ }
 {
     limit_all(sizes, numbers, best, minima);
     reach::fill(
@@ -205,6 +211,9 @@ pub fn take(sizes: Sizes, leaf: Best, kept: Kept, numbers: &[i32], minima: &mut 
         ≡ keptOf (kept .count) (kept .stopped)
         (noted (vectorFor sizes (now (numbers .entry))) (leaf .label) (leaf .metric)
         (takenIn (kept .label) (kept .best) (now (minima .entry)))))
+        × (limitsOf (now (minima .exit))
+        ≡ limitsAfter (vectorFor sizes (now (numbers .entry))) (sizes .streams) (leaf .label) (leaf .metric)
+        (takenIn (kept .label) (kept .best) (now (minima .entry))) (limitsOf (now (minima .entry))))
         × Limited (vectorFor sizes (now (numbers .entry))) (takenIn (r .label) (r .best) (now (minima .exit)))
         (limitsOf (now (minima .exit))) × (length (now (minima .exit)) ≡ minimaSize) ⌝ }
 {

@@ -15,7 +15,7 @@ use Rattle.model.proofs.Bounds.{prior-cost-bound}
 use Rattle.metric.specs.Parts.{axisWidth, span, part, axisDistance, axisPart, realIn, imaginaryIn, childMetric, filledFrom, AllSmall}
 use Rattle.metric.specs.Parts.{nearestOf}
 use Rattle.metric.specs.Rows.{rowStart, rowAt, childOf, VectorAsked, Measured}
-use Rattle.metric.specs.Tables.{Axis, axisPlace, axisBits, axisPrior, labelProduct, labelCost, Tabled, tablePart, AxisAsked}
+use Rattle.metric.specs.Tables.{Axis, axisPlace, axisBits, axisPrior, labelProduct, labelCost, Tabled, tablePart, partsIn, AxisAsked}
 use Rattle.metric.specs.Tables.Axis.{real, imaginary}
 use Rattle.metric.proofs.Filled.{from-length, from-before, from-at, from-all}
 use Rattle.metric.proofs.Increments.{part-append, part-length, increment-by}
@@ -187,11 +187,10 @@ module _ {m q : ℕ} {numbers : List ℤ} (asked : VectorAsked m q numbers) (lev
       imaginary-at : (b : ℕ) → b < 2 ^ (q / 2) → imaginaryIn second b ≡ imaginaryPart b
       imaginary-at b h = in-at tabled imaginary (left .im) low-im first first-size b h
 
-      pub measured-by : (one two : List ℕ) → one ≡ first → two ≡ axisIn q tables level imaginary (left .im) one
-          → Measured m q numbers level node two
-      unfolding childMetric
-      measured-by one two e₁ e₂ =
-          rw (e₂, e₁)
+      pub measured-by : (new : List ℕ) → new ≡ partsIn q tables level (left .re) (left .im) axes → Measured m q numbers level node new
+      unfolding childMetric partsIn
+      measured-by new e =
+          rw e
           (record {
             size = from-length span _ (2 ^ (q / 2)) first ∙ first-size;
             small = in-small tabled imaginary (left .im) low-im first first-size (in-small tabled real (left .re) low-re axes size small);

@@ -2,12 +2,12 @@
 use Prim.Native.Nat.{ℕ, suc, _+_, _-_, _*_, _/_, _%_, _^_, _≤_, _<_}
 use mathlib.Core.Path.{_≡_, sym, _∙_, ap, ap₂}
 use mathlib.Core.List.{List, map}
-use native.Mathlib.Nat.{add-comm, add-zero, suc-mul, mul-le-mul}
+use native.Mathlib.Nat.{add-comm, suc-mul, mul-le-mul}
 use native.Mathlib.Numerals.{add-one}
 use native.Mathlib.Omega.{arith}
 use lib.ListN.{length, getD}
-use lib.IntN.{ℤ, pos, natAbs, _+ℤ_, _-ℤ_, _*ℤ_, +ℤ-idr, -ℤ-+ℤ-cancel}
-use lib.Pow.{pow-mono, high, low}
+use lib.IntN.{ℤ, pos, natAbs, _+ℤ_, _-ℤ_, _*ℤ_, +ℤ-idr}
+use lib.Pow.{pow-mono}
 use Rattle.model.specs.Constellation.{Complex, Bits, bitsOf, _⊕_, _⊖_, _⊗_, point}
 use Rattle.model.specs.Metric.{dot}
 use Rattle.model.specs.Soft.{upFrom}
@@ -18,7 +18,7 @@ use Rattle.constellation.specs.Points.{complexOf, Points}
 use Rattle.block.specs.Contents.{complexAt}
 use Rattle.metric.specs.Parts.{span}
 use Rattle.metric.specs.Rows.{rowStart, rowAt, remainderOf, VectorAsked, TermAsked}
-use Rattle.metric.proofs.Increments.{less-sum, less-other}
+use Rattle.metric.proofs.Increments.{less-sum}
 use Rattle.metric.proofs.Rows.{row-end, entry-within, row-in-range}
 
 -- One entry more is taken away
@@ -139,42 +139,3 @@ remains-small {m} {q} {numbers} asked level node h =
     let all = difference-bound (r .received) (dot-bound q (rowAt m q numbers level .right) (bitsOf ((m - suc level) * q) node) (r .right)) in
     let sum = mul-le-mul few term in
     record { re = omega (arith, all .re); im = omega (arith, all .im) }
-
--- The children of a node, by their symbols: what remains at one differs from what remains at another by the terms of these two alone
-module _ (m q : ℕ) (numbers : List ℤ) (level node : ℕ) (inside : suc level < m) (placed : node < 2 ^ ((m - suc (suc level)) * q)) where
-  abbrev pub termAt : ℕ → Complex
-  termAt s = complexAt numbers (rowStart m level + 1) ⊗ point (bitsOf q s)
-
-  abbrev pub atChild : ℕ → Complex
-  atChild s = remains m q numbers level (s * 2 ^ ((m - suc (suc level)) * q) + node)
-
-  -- What remains with the first entry left out
-  others : Complex
-  others =
-      let u = m - suc (suc level) in
-      complexAt numbers (m * m + 2 * level) ⊖ dot q (map (entry m q numbers level node) (upFrom 1 u)) (bitsOf (u * q) node)
-
-  by-symbol : (s : ℕ) → atChild s ≡ others ⊖ termAt s
-  unfolding remainderOf rowAt entry others
-  by-symbol s =
-      let u = m - suc (suc level) in
-      let x = s * 2 ^ (u * q) + node in
-      let fuel : m - suc level ≡ suc u = omega arith in
-      let f : ℕ → Complex = entry m q numbers level node in
-      let y = complexAt numbers (m * m + 2 * level) in
-      let d = dot q (map f (upFrom 1 u)) (bitsOf (u * q) node) in
-      ap (λ (n : ℕ). y ⊖ dot q (map f (upFrom 0 n)) (bitsOf (n * q) x)) fuel
-      ∙ one-more q f x 0 y u
-      ∙ ap₂ (λ (a : ℕ) (b : Bits). y ⊖ f 0 ⊗ point (bitsOf q a) ⊖ dot q (map f (upFrom 1 u)) b) (high s (u * q) placed)
-      (sym (low-bits (u * q) x) ∙ ap (bitsOf (u * q)) (low s (u * q) placed))
-      ∙ ap (λ (i : ℕ). y ⊖ complexAt numbers i ⊗ point (bitsOf q s) ⊖ d) (add-zero (rowStart m level + 1))
-      ∙ sym (less-sum y (termAt s) d) ∙ less-other y (termAt s) d
-
-  -- so that the one's term is added, and the other's taken away
-  pub other-child : (r s : ℕ) → atChild s ≡ atChild r ⊕ termAt r ⊖ termAt s
-  other-child r s =
-      by-symbol s
-      ∙ ap (λ (z : Complex). z ⊖ termAt s)
-      (sym
-      (ap (λ (z : Complex). z ⊕ termAt r) (by-symbol r)
-      ∙ ap₂ complexOf (-ℤ-+ℤ-cancel (others .re) (termAt r .re)) (-ℤ-+ℤ-cancel (others .im) (termAt r .im))))

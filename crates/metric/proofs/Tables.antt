@@ -1,9 +1,10 @@
 -- The table: what filling an axis's entries in makes of it, and what it asks.
-use Prim.Native.Nat.{ℕ, _+_, _-_, _*_, _/_, _^_, _≤_, _<_}
-use mathlib.Core.Path.{_≡_, _∙_, ap, subst}
+use Prim.Native.Nat.{ℕ, zero, suc, _+_, _-_, _*_, _/_, _^_, _≤_, _<_}
+use mathlib.Core.Path.{_≡_, refl, _∙_, ap, subst}
 use mathlib.Core.List.{List}
 use native.Mathlib.Decide.{decLt}
-use native.Mathlib.Nat.{zero-add, mul-assoc, mul-comm}
+use native.Mathlib.Nat.{zero-add, mul-assoc, mul-comm, not-suc-le-zero}
+use native.Mathlib.Numerals.{add-one}
 use native.Mathlib.Omega.{arith}
 use lib.ListN.{length, getD}
 use lib.Pow.{pow-mono, pow-pos}
@@ -17,7 +18,7 @@ use Rattle.constellation.specs.Points.{Points}
 use Rattle.constellation.proofs.Tables.{real-axis, imaginary-axis}
 use Rattle.metric.specs.Parts.{axisWidth, span, part}
 use Rattle.metric.specs.Rows.{rowStart, priorStart, VectorAsked}
-use Rattle.metric.specs.Tables.{Axis, tableSize, axisPlace, axisBits, axisPrior, labelProduct, labelCost, entriesIn}
+use Rattle.metric.specs.Tables.{Axis, tableSize, axisPlace, axisBits, axisPrior, labelProduct, labelCost, entriesIn, axisIn, rowsIn}
 use Rattle.metric.specs.Tables.{AxisTabled, RowTabled, TabledTo, AmplitudesAsked, EntriesAsked}
 use Rattle.metric.specs.Tables.Axis.{real, imaginary}
 use Rattle.metric.proofs.Filled.{from-length, from-before, from-at}
@@ -78,11 +79,6 @@ module _ (tables : List ℤ) (at : ℕ) (diagonal : ℤ) (priors : List ℤ) (w 
         (omega (arith, pow-mono few, from-length at (labelProduct diagonal w) (2 ^ w) tables));
   }
 
--- A table with an axis of row i filled in
-abbrev axisIn : ℕ → ℕ → List ℤ → List ℤ → ℕ → ℤ → Axis → List ℤ
-axisIn m q numbers tables i diagonal x =
-    entriesIn tables (axisPlace i x) diagonal (part numbers (axisPrior m q i x) (axisBits q x)) (axisBits q x)
-
 -- One row more
 module _ {m q : ℕ} {numbers tables : List ℤ} {k : ℕ} (few : q ≤ mostWidth) (inside : k < mostStreams)
     (so-far : TabledTo m q numbers tables k) where
@@ -122,6 +118,21 @@ module _ {m q : ℕ} {numbers tables : List ℤ} {k : ℕ} (few : q ≤ mostWidt
       go : (i : ℕ) → i < k + 1 → (x : Axis) → Dec (i < k) → RowTabled m q numbers second i x
       go i h x (yes l) = older i l x
       go i h x (no l) = let e : k ≡ i = omega arith in subst (λ (j : ℕ). RowTabled m q numbers second j x) e (newest x)
+
+-- A row more of the table, as it is made
+pub rows-more : (m q : ℕ) (numbers old tables : List ℤ) (k : ℕ) → tables ≡ rowsIn m q numbers k old → (d : ℤ) (one two : List ℤ)
+    → d ≡ getD numbers (rowStart m k) (pos 0) → one ≡ axisIn m q numbers tables k d real → two ≡ axisIn m q numbers one k d imaginary
+    → two ≡ rowsIn m q numbers (k + 1) old
+unfolding rowsIn
+rows-more m q numbers old tables k so-far d one two e e₁ e₂ = rw add-one (rw (e₂, e₁, e, so-far) refl)
+
+-- It has the axes of the first k rows, whatever stood in it
+pub rows-tabled : (m q : ℕ) (numbers old : List ℤ) → q ≤ mostWidth → length old ≡ tableSize → (k : ℕ) → k ≤ mostStreams
+    → TabledTo m q numbers (rowsIn m q numbers k old) k
+unfolding rowsIn
+rows-tabled m q numbers old few size zero h = record { size = size; axes = λ i h. absurd (not-suc-le-zero h) }
+rows-tabled m q numbers old few size (suc k) h =
+    subst (TabledTo m q numbers (rowsIn m q numbers (suc k) old)) (add-one k) (tabled-more few h (rows-tabled m q numbers old few size k (omega arith)) _ _ _ refl refl refl)
 
 module _ {m q : ℕ} {numbers : List ℤ} (asked : VectorAsked m q numbers) (level : ℕ) (inside : level < m) where
   -- The priors of an axis: w of the row's from a place on

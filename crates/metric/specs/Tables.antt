@@ -1,6 +1,6 @@
 -- The table of what depends on a vector alone: for each axis of each row, the diagonal entry times the amplitude of each axis label, then
 -- each label's prior cost.
-use Prim.Native.Nat.{ℕ, _+_, _-_, _*_, _/_, _≤_, _<_, _^_}
+use Prim.Native.Nat.{ℕ, zero, suc, _+_, _-_, _*_, _/_, _≤_, _<_, _^_}
 use mathlib.Core.Path.{_≡_}
 use mathlib.Core.List.{List}
 use lib.IntN.{ℤ, pos, natAbs, _-ℤ_, _*ℤ_}
@@ -51,6 +51,18 @@ unfoldable pub entriesIn : List ℤ → ℕ → ℤ → List ℤ → ℕ → Lis
 entriesIn tables at diagonal priors w =
     filledFrom (at + span) (labelCost priors w) (2 ^ w) (filledFrom at (labelProduct diagonal w) (2 ^ w) tables)
 
+-- A table with those of an axis of row i filled in
+abbrev pub axisIn : ℕ → ℕ → List ℤ → List ℤ → ℕ → ℤ → Axis → List ℤ
+axisIn m q numbers tables i diagonal x =
+    entriesIn tables (axisPlace i x) diagonal (part numbers (axisPrior m q i x) (axisBits q x)) (axisBits q x)
+
+-- and with both axes of the first k rows: the other places are as before
+unfoldable pub rowsIn : ℕ → ℕ → List ℤ → ℕ → List ℤ → List ℤ
+rowsIn m q numbers zero tables = tables
+rowsIn m q numbers (suc k) tables =
+    let diagonal = getD numbers (rowStart m k) (pos 0) in
+    axisIn m q numbers (axisIn m q numbers (rowsIn m q numbers k tables) k diagonal real) k diagonal imaginary
+
 -- The entries of an axis of row i stand at their place
 abbrev pub RowTabled : ℕ → ℕ → List ℤ → List ℤ → ℕ → Axis → Type 0
 RowTabled m q numbers tables i x =
@@ -70,6 +82,12 @@ unfoldable pub tablePart : List ℤ → ℕ → ℤ → ℕ → ℕ
 tablePart tables at left g =
     let z = left -ℤ getD tables (at + g) (pos 0) in
     natAbs z * natAbs z + natAbs (getD tables (at + span + g) (pos 0))
+
+-- An array of both axes with the parts of row i's labels filled in: the other places are as before
+unfoldable pub partsIn : ℕ → List ℤ → ℕ → ℤ → ℤ → List ℕ → List ℕ
+partsIn q tables i re im axes =
+    filledFrom span (tablePart tables (axisPlace i imaginary) im) (2 ^ axisBits q imaginary)
+    (filledFrom 0 (tablePart tables (axisPlace i real) re) (2 ^ axisBits q real) axes)
 
 -- What measuring an axis asks: its entries stand within the table, products in their range and costs not negative
 pub record AxisAsked (tables : List ℤ) (at : ℕ) (left : ℤ) (w : ℕ) : Type 0 where

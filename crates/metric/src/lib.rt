@@ -13,8 +13,8 @@ ghost use Rattle.constellation.specs.Points.{complexOf, places, pointIn, Points
 ghost use Rattle.block.specs.Contents.{complexAt};
 ghost use Rattle.metric.specs.Parts.{axisWidth, span, part, bitOf, axisCost, imaginaryIn, rowMetric, measuredTo, apart, nearestOf};
 ghost use Rattle.metric.specs.Parts.{filledFrom, AllSmall};
-ghost use Rattle.metric.specs.Rows.{rowAt, remainderOf, VectorAsked, Measured, Factors, TermAsked};
-ghost use Rattle.metric.specs.Tables.{tableSize, labelProduct, labelCost, entriesIn, tablePart, Tabled};
+ghost use Rattle.metric.specs.Rows.{rowAt, remainderOf, VectorAsked, Factors, TermAsked};
+ghost use Rattle.metric.specs.Tables.{tableSize, labelProduct, labelCost, entriesIn, rowsIn, tablePart, partsIn, Tabled};
 ghost use Rattle.metric.specs.Tables.{AxisAsked, AmplitudesAsked, PriorsAsked, EntriesAsked};
 
 // How many labels the widest axis has.
@@ -203,7 +203,7 @@ fn fill_entries(
 pub fn prepare(shape: Shape, points: &[i8; PLACES], numbers: &[i32], tables: &mut [i32; TABLE])
     requires { ⌜ VectorAsked (shape .streams) (shape .width) (now numbers) × (length (now tables) ≡ tableSize)
         × Points (shape .width) (now points) ⌝ }
-    ensures { λ _. ⌜ Tabled (shape .streams) (shape .width) (now (numbers .entry)) (now (tables .exit)) ⌝ }
+    ensures { λ _. ⌜ now (tables .exit) ≡ rowsIn (shape .streams) (shape .width) (now (numbers .entry)) (shape .streams) (now (tables .entry)) ⌝ }
 {
     let m = shape.streams;
     let q = shape.width;
@@ -301,12 +301,11 @@ fn copy_imaginary(axes: &[u64; AXES], n: usize, parts: &mut [u64; AXES])
     }
 }
 
-// The children's partial metrics in one pass, row by row of the constellation: each place is written once, with its whole increment.
-fn fill_rows(q: usize, partial: u64, axes: &[u64; AXES], keys: &mut [u64])
-    requires { ⌜ (q ≤ mostWidth) × (partial < 2 ^ 62) × AllSmall (now axes) × (2 ^ q ≤ length (now keys)) ⌝ }
-    ensures { λ _. ⌜ now (keys .exit) ≡ measuredTo q partial (now (axes .entry)) (2 ^ q) (now (keys .entry)) ⌝ }
+// The children of the first rows of the constellation, row by row: each place is written once, with its whole increment.
+fn fill_rows(q: usize, partial: u64, axes: &[u64; AXES], rows: usize, keys: &mut [u64])
+    requires { ⌜ (q ≤ mostWidth) × (partial < 2 ^ 62) × AllSmall (now axes) × (2 ^ q ≤ length (now keys)) × (rows ≤ 2 ^ (q - q / 2)) ⌝ }
+    ensures { λ _. ⌜ now (keys .exit) ≡ measuredTo q partial (now (axes .entry)) (rows * 2 ^ (q / 2)) (now (keys .entry)) ⌝ }
 {
-    let rows: usize = 1 << (q - q / 2);
     let n: usize = 1 << (q / 2);
     let mut parts = [0u64; AXES];
     copy_imaginary(axes, n, &mut parts);
@@ -317,18 +316,29 @@ fn fill_rows(q: usize, partial: u64, axes: &[u64; AXES], keys: &mut [u64])
     }
 }
 
-// The same, with the rows and columns of 64-QAM and 16-QAM made known to the compiler.
+// The pass over the children as far as the first k: whole rows, and the first columns of the next one.
+pub fn fill_first(q: usize, partial: u64, axes: &[u64; AXES], k: usize, keys: &mut [u64])
+    requires { ⌜ (q ≤ mostWidth) × (partial < 2 ^ 62) × AllSmall (now axes) × (2 ^ q ≤ length (now keys)) × (k ≤ 2 ^ q) ⌝ }
+    ensures { λ _. ⌜ now (keys .exit) ≡ measuredTo q partial (now (axes .entry)) k (now (keys .entry)) ⌝ }
+{
+    let n: usize = 1 << (q / 2);
+    let rows = k / n;
+    fill_rows(q, partial, axes, rows, keys);
+    fill_columns(partial + axes[rows], axes, k % n, rows * n, keys)
+}
+
+// The same for all children, with the rows and columns of 64-QAM and 16-QAM made known to the compiler.
 pub fn fill_children(q: usize, partial: u64, axes: &[u64; AXES], keys: &mut [u64])
     requires { ⌜ (q ≤ mostWidth) × (partial < 2 ^ 62) × AllSmall (now axes) × (2 ^ q ≤ length (now keys)) ⌝ }
     ensures { λ _. ⌜ now (keys .exit) ≡ measuredTo q partial (now (axes .entry)) (2 ^ q) (now (keys .entry)) ⌝ }
 {
     if q == 6 {
-        return fill_rows(6, partial, axes, keys);
+        return fill_first(6, partial, axes, 64, keys);
     }
     if q == 4 {
-        return fill_rows(4, partial, axes, keys);
+        return fill_first(4, partial, axes, 16, keys);
     }
-    fill_rows(q, partial, axes, keys)
+    fill_first(q, partial, axes, 1 << q, keys)
 }
 
 // One of a vector's numbers.
@@ -370,7 +380,7 @@ pub struct Complex {
 }
 
 // An entry of R, at its place in the numbers, times the point of a symbol.
-pub fn term(points: &[i8; PLACES], numbers: &[i32], place: usize, symbol: usize) -> Complex
+fn term(points: &[i8; PLACES], numbers: &[i32], place: usize, symbol: usize) -> Complex
     requires { ⌜ TermAsked (now points) (now numbers) place symbol ⌝ }
     ensures { λ r. ⌜ complexOf (r .re) (r .im) ≡ complexAt (now (numbers .entry)) place ⊗ pointIn (now (points .entry)) symbol ⌝ }
 {
@@ -384,7 +394,7 @@ pub fn term(points: &[i8; PLACES], numbers: &[i32], place: usize, symbol: usize)
 }
 
 // a less b.
-pub fn less(a: i64, b: i64) -> i64
+fn less(a: i64, b: i64) -> i64
     requires { ⌜ (natAbs a < 2 ^ 30) × (natAbs b < 2 ^ 30) ⌝ }
     ensures { λ r. ⌜ r ≡ a -ℤ b ⌝ }
 {
@@ -467,10 +477,8 @@ pub fn fill_parts(
     requires { ⌜ VectorAsked (shape .streams) (shape .width) (now numbers)
         × Tabled (shape .streams) (shape .width) (now numbers) (now tables) × (row < shape .streams)
         × (natAbs (left .re) < 2 ^ 30) × (natAbs (left .im) < 2 ^ 30) × (length (now axes) ≡ 2 * span) × AllSmall (now axes) ⌝ }
-    ensures { λ _. ⌜ ((node : ℕ) → complexOf (left .re) (left .im)
-        ≡ remainderOf (shape .width) (rowAt (shape .streams) (shape .width) (now (numbers .entry)) row)
-        (bitsOf ((shape .streams - suc row) * shape .width) node)
-        → Measured (shape .streams) (shape .width) (now (numbers .entry)) row node (now (axes .exit))) ⌝ }
+    ensures { λ _. ⌜ now (axes .exit)
+        ≡ partsIn (shape .width) (now (tables .entry)) row (left .re) (left .im) (now (axes .entry)) ⌝ }
 {
     let q = shape.width;
     let at = row * (4 * SPAN);

@@ -17,7 +17,7 @@ use Rattle.model.specs.Metric.{Row, Vector, metricOf, labelBits, bitAt, 
 use Rattle.model.specs.Soft.{Least, infinite, finite, leastWith, pick, softValue, softAt, places, Report, report}
 use Rattle.model.specs.Walk.{walk, leaves}
 use Rattle.model.specs.Block.{Block, vectorOf, Answer, walkedNodes, walkedLabels, answer, total, allowance, answersFrom, answers, totalCount, _∈_, Every, Shaped}
-use Rattle.model.specs.Demand.{LeastMetric, SoftValue, Demand2, WalkedAndCut, Result, ResultsFrom, Demand3}
+use Rattle.model.specs.Demand.{LeastMetric, SoftValue, Demand2, LeastOver, Demand2Over, WalkedAndCut, Result, ResultsFrom, Demand3}
 use Rattle.model.proofs.Lists.{in-symbols, symbols-length, length-upFrom, getD-places}
 use Rattle.model.proofs.Ranks.{order-head}
 use Rattle.model.proofs.Least.{AtMost, Lex, pick-in, pick-least, least-le, least-in, Attained}
@@ -91,6 +91,38 @@ module _ (v : Vector) where
         value = getD-places (softAt v (v .clip) all) (pos 0) (labelBits v) i h ∙ ap₂ (softValue (v .clip) (v .clip) (priorAt v i)) (s .1) (t .1);
       }
 
+  -- A list's least metric with a bit is one, or there is none
+  least-over : (i : ℕ) (x : Bool) (ls : List Bits) → LeastOver v ls i x (leastWith v i x ls)
+  least-over i x ls = go (leastWith v i x ls) refl
+    where
+      go : (u : Least) → leastWith v i x ls ≡ u → LeastOver v ls i x u
+      go infinite e = λ l h b. subst (λ (u : Least). AtMost u (metricOf v l)) e (least-le v i x ls l h b)
+      go (finite a) e =
+          let t : Attained v i x ls a = least-in v i x ls a e in
+          (t .label, t .member, t .bit, t .value, λ k h b. subst (λ (u : Least). AtMost u (metricOf v k)) e (least-le v i x ls k h b))
+
+  -- Label and soft values over any labels, of which there is one, are demand 2's with these in place of all labels
+  pub report-over : (empty : ℕ) (ls : List Bits) → (x : Bits) × (x ∈ ls) → Demand2Over v empty ls (report v empty ls)
+  report-over empty ls some = record {
+    label = pick v ls;
+    member = pick-in v ls (some .1);
+    shown = refl;
+    least = λ l h. order-head (pick-least v ls h);
+    smallest = λ l h e. second l e (pick-least v ls h);
+    many = length-upFrom (softAt v empty ls) 0 (labelBits v);
+    soft = λ i h. record {
+      one = leastWith v i true ls;
+      zero = leastWith v i false ls;
+      with1 = least-over i true ls;
+      with0 = least-over i false ls;
+      value = getD-places (softAt v empty ls) (pos 0) (labelBits v) i h;
+    };
+  }
+    where
+      second : (l : Bits) → metricOf v l ≡ metricOf v (pick v ls) → Lex v (pick v ls) l → number (pick v ls) ≤ number l
+      second l e (inl h) = absurd (omega arith)
+      second l e (inr h) = order-head (h .1)
+
   -- A vector marked complete walked its whole walk
   complete : (n : ℕ) → answer v n .stopped ≡ false → walkedNodes v n ≡ walk v
   unfolding answer
@@ -121,6 +153,7 @@ module _ (v : Vector) (q : 0 < v .width) (some-row : 0 < length (v .rows)) where
     once = Nodup·of-append-left (drop n (walk v)) (subst List·Nodup (sym (take-append-drop n (walk v))) (walk-once v q));
     some = some-leaf v q some-row n (omega arith);
     walked = refl;
+    over = report-over v (v .clip) (walkedLabels v n) (some-leaf v q some-row n (omega arith));
     pruned = λ c s x. pruning-exact v q some-row s x ∙ sym (ap (λ (w : List Bits). report v (v .clip) (leaves v w)) (complete v n c));
     exact = demand2 n;
   }

@@ -9,9 +9,9 @@ use lib.IntN.{ℤ, pos, _-ℤ_}
 use Rattle.integers.specs.Clip.{clipped}
 use Rattle.model.specs.Constellation.{Bits, number}
 use Rattle.model.specs.Metric.{Row, Vector, metricOf, labelBits, bitAt, priorAt}
-use Rattle.model.specs.Soft.{Report, report}
+use Rattle.model.specs.Soft.{Least, infinite, finite, softValue, Report, report}
 use Rattle.model.specs.Walk.{walk, cutChildren, leaves}
-use Rattle.model.specs.Block.{Block, vectorOf, Answer, walkedNodes, walkedLabels, total, totalCount, _∈_}
+use Rattle.model.specs.Block.{Block, vectorOf, Answer, walkedNodes, walkedLabels, totalCount, _∈_}
 use Rattle.model.specs.Search.{search, outcome}
 
 -- a is "the least metric with that bit" x over all labels: one of them has it, none has less
@@ -42,6 +42,30 @@ pub record Demand2 (v : Vector) (r : Report) : Type 0 where
   pub many : length (r .soft) ≡ labelBits v
   pub soft : (i : ℕ) → i < labelBits v → SoftValue v i (getD (r .soft) i (pos 0))
 
+-- u is the least metric with bit i equal to x over the labels of a list: infinite where none has it
+abbrev pub LeastOver : Vector → List Bits → ℕ → Bool → Least → Type 0
+LeastOver v ls i x infinite = (l : Bits) → l ∈ ls → bitAt i l ≡ x → ⊥
+LeastOver v ls i x (finite a) =
+    (l : Bits) × (l ∈ ls) × (bitAt i l ≡ x) × (metricOf v l ≡ a) × ((k : Bits) → k ∈ ls → bitAt i k ≡ x → a ≤ metricOf v k)
+
+-- z is bit i's soft value over these labels
+pub record SoftOver (v : Vector) (empty : ℕ) (ls : List Bits) (i : ℕ) (z : ℤ) : Type 0 where
+  pub one : Least
+  pub zero : Least
+  pub with1 : LeastOver v ls i true one
+  pub with0 : LeastOver v ls i false zero
+  pub value : z ≡ softValue (v .clip) empty (priorAt v i) one zero
+
+-- "demand 2's with that set in place of all labels. A side on which the set has no label is infinite"
+pub record Demand2Over (v : Vector) (empty : ℕ) (ls : List Bits) (r : Report) : Type 0 where
+  pub label : Bits
+  pub member : label ∈ ls
+  pub shown : r .label ≡ number label
+  pub least : (l : Bits) → l ∈ ls → metricOf v label ≤ metricOf v l
+  pub smallest : (l : Bits) → l ∈ ls → metricOf v l ≡ metricOf v label → number label ≤ number l
+  pub many : length (r .soft) ≡ labelBits v
+  pub soft : (i : ℕ) → i < labelBits v → SoftOver v empty ls i (getD (r .soft) i (pos 0))
+
 -- A label of a cut subtree (document 01's term), one "whose leaf is a cut child or lies below one"
 pub record InCutSubtree (v : Vector) (l : Bits) : Type 0 where
   pub whole : length l ≡ labelBits v
@@ -59,7 +83,7 @@ pub record WalkedAndCut (v : Vector) (s : List Bits) : Type 0 where
 -- allowance
 pub record Result (b : Block) (spent after n : ℕ) (v : Vector) (a : Answer) : Type 0 where
   -- N × D, less what was spent, less (N - k) × M, with no difference cut off at 0
-  pub allowed : n + (spent + after * b .streams) ≡ total b
+  pub allowed : n + (spent + after * b .streams) ≡ length (b .vectors) * b .share
   -- "marked stopped exactly when document 01's walk of it is longer than its allowance"
   pub stopped : (a .stopped ≡ true) ↔ (n < length (walk v))
   -- "each count is the smaller of that walk's length and the allowance", and "at least M"
@@ -72,6 +96,7 @@ pub record Result (b : Block) (spent after n : ℕ) (v : Vector) (a : Answer) : 
   -- "label and values over the walked labels alone", of which there is one
   pub some : (l : Bits) × (l ∈ walkedLabels v n)
   pub walked : a .result ≡ report v (v .clip) (walkedLabels v n)
+  pub over : Demand2Over v (v .clip) (walkedLabels v n) (a .result)
   -- "for every complete vector, over the walked labels and whichever labels of cut subtrees .. the label and every soft value come
   -- out as in the reply"
   pub pruned : a .stopped ≡ false → (s : List Bits) → WalkedAndCut v s → report v (v .clip) s ≡ a .result
@@ -88,5 +113,5 @@ ResultsFrom b spent (rows ∷ later) (a ∷ rest) =
 
 -- Demand 3: one claim about a block's whole list of vectors and their answers. "The reply's counts add up to at most N × D"
 pub record Demand3 (b : Block) (found : List Answer) : Type 0 where
-  pub sum : totalCount found ≤ total b
+  pub sum : totalCount found ≤ length (b .vectors) * b .share
   pub each : ResultsFrom b 0 (b .vectors) found

@@ -10,4 +10,3 @@ pub mod Minima
 pub mod Steps
 pub mod Turns
 pub mod Early
-pub mod Counted

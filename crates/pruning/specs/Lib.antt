@@ -1,4 +1,3 @@
 pub mod Arrays
 pub mod Program
 pub mod Reach
-pub mod Counted

@@ -19,7 +19,7 @@ use Rattle.cutoff.specs.Axes.{WidestLast, ByBits}
 use Rattle.cutoff.specs.Cut.{Widest}
 use Rattle.pruning.specs.Reach.{widestOf}
 use Rattle.pruning.proofs.Reach.{widest-ge, widest-split, widest-same, symbol-bit}
-use Rattle.reach.specs.Reach.{limitIn, firstPlace, axisEntries, entryPlace, axisStart, axisReach, streamReach, symbolOf, chosenReach}
+use Rattle.reach.specs.Reach.{limitIn, axisEntries, entryPlace, axisStart, axisReach, streamReach, symbolOf, chosenReach}
 use Rattle.reach.specs.Reach.{StandsFor, Reaches, entriesOf}
 use Rattle.reach.proofs.Axes.{axis-same, all-ones}
 use Rattle.reach.proofs.Streams.{stream-is}
@@ -61,23 +61,6 @@ single-bit w i =
     let e = w - suc i in
     let d : 2 ^ e ≡ 1 * 2 ^ e + 0 = omega arith in
     ap (λ (y : ℕ). eqb (y % 2) 1) (ap (λ (y : ℕ). y / 2 ^ e) d ∙ high 1 e (pow-pos e))
-
--- No symbol of a stream reaches further than the streams up to it
-pub stream-wider : {q : ℕ} {limit : ℕ → ℕ} {limits : List ℕ} {k : ℕ} → Reaches q limit limits k
-    → (j s : ℕ) → j < k → s < 2 ^ q → streamReach q limits j s ≤ getD limits (firstPlace (suc j)) 0
-unfolding axisReach
-stream-wider {q} {limit} {limits} made j s h l =
-    let z : 0 + j * q ≡ j * q = omega arith in
-    let all : widestOf (λ _. true) limit 0 (suc j * q)
-    ≡ max (widestOf (λ _. true) limit 0 (j * q)) (widestOf (λ _. true) limit (j * q) q) =
-    ap (widestOf (λ _. true) limit 0) (suc-mul j q) ∙ rw z at (widest-split (λ _. true) limit 0 (j * q) q) in
-    omega (
-      arith,
-      stream-is q limit limits j s (made .entry j h) l,
-      widest-all (λ i. bitOf q s (i - j * q)) limit (j * q) q,
-      all,
-      made .first (suc j) h,
-    )
 
 -- A stream's entries
 module _ {q : ℕ} {limit : ℕ → ℕ} {limits : List ℕ} {k : ℕ} (made : Reaches q limit limits k) (j : ℕ) (inside : j < k) where

@@ -1,26 +1,46 @@
 -- A stream's entries and the widest limit of the streams up to it: what filling them in makes of the array.
-use Prim.Native.Nat.{ℕ, suc, _+_, _-_, _*_, _/_, _%_, _^_, _≤_, _<_, max}
-use mathlib.Core.Path.{_≡_, refl, sym, _∙_, ap, ap₂}
+use Prim.Native.Nat.{ℕ, zero, suc, _+_, _-_, _*_, _/_, _%_, _^_, _≤_, _<_, max}
+use mathlib.Core.Path.{_≡_, refl, sym, _∙_, ap, ap₂, subst}
 use mathlib.Core.Bool.{true}
 use mathlib.Core.List.{List}
-use mathlib.Core.Logic.{inl, inr}
+use mathlib.Core.Logic.{_⊎_, inl, inr}
 use native.Mathlib.Decide.{decLt}
 use native.Mathlib.Nat.{le-refl, ne-of-lt, ne-of-gt, mul-le-mul, suc-mul, zero-mul, mod-lt, not-suc-le-zero}
 use native.Mathlib.Numerals.{add-one}
 use native.Mathlib.Omega.{arith}
 use lib.ListN.{length, getD, set, length-set}
-use lib.Seq.{getD-set-same, getD-set-other}
+use lib.Seq.{getD-set-same, getD-set-other, set-getD, ext-getD}
 use lib.Pow.{pow-pos, pow-mono, ones-lt}
 use Rattle.model.specs.Block.{mostStreams, mostWidth, mostBits}
+use Rattle.metric.specs.Parts.{filledFrom}
 use Rattle.metric.specs.Tables.{Axis, axisBits}
 use Rattle.metric.specs.Tables.Axis.{real, imaginary}
+use Rattle.metric.proofs.Filled.{from-length, from-before, from-at, from-same}
 use Rattle.metric.proofs.Tables.{axis-few}
 use Rattle.pruning.specs.Reach.{widestOf}
 use Rattle.pruning.proofs.Reach.{widest-split, widest-same}
 use Rattle.model.proofs.Numbers.{first-half}
-use Rattle.reach.specs.Reach.{limitIn, limitsSize, firstPlace, entryPlace, axisStart, axisReach, streamReach}
-use Rattle.reach.specs.Reach.{StreamRight, Reaches, AxisFilled, Elsewhere, AxesFilled, StreamFilled}
+use Rattle.reach.specs.Reach.{limitIn, limitsSize, firstPlace, axisEntries, entryPlace, axisStart, axisReach, streamReach}
+use Rattle.reach.specs.Reach.{StreamRight, Reaches, AxisFilled, axisIn, axesIn, streamIn, reachesIn}
 use Rattle.reach.proofs.Axes.{axis-same, all-ones, halves}
+
+-- A place that is not one of stream j's entries
+abbrev Elsewhere : ℕ → ℕ → Type 0
+Elsewhere j i = (i < entryPlace j real) ⊎ (entryPlace (suc j) real ≤ i)
+
+-- Stream j's entries: the other streams' places are as before
+pub record AxesFilled (q : ℕ) (old new : List ℕ) (j : ℕ) : Type 0 where
+  pub size : length new ≡ length old
+  pub kept : (i : ℕ) → Elsewhere j i → getD new i 0 ≡ getD old i 0
+  pub entry : StreamRight q (limitIn old) new j
+
+-- Stream j's entries and the widest limit of the streams up to it
+pub record StreamFilled (q : ℕ) (old new : List ℕ) (j : ℕ) : Type 0 where
+  pub size : length new ≡ length old
+  pub before : (i : ℕ) → i ≤ firstPlace j → getD new i 0 ≡ getD old i 0
+  pub others : (i : ℕ) → axisEntries ≤ i → Elsewhere j i → getD new i 0 ≡ getD old i 0
+  pub first : getD new (firstPlace (suc j)) 0 ≡ max (getD old (firstPlace j) 0) (widestOf (λ _. true) (limitIn old) (j * q) q)
+  pub entry : StreamRight q (limitIn old) new j
 
 -- A symbol's reach is that of all its bits, by the entries of its two axes
 pub stream-is : (q : ℕ) (limit : ℕ → ℕ) (limits : List ℕ) (j s : ℕ)
@@ -64,14 +84,105 @@ module _ (q j : ℕ) {old one two : List ℕ} (few : q ≤ mostWidth) (label : j
   pub axes-filled : AxesFilled q old two j
   axes-filled = record { size = second .size ∙ first .size; kept = kept; entry = entries }
 
--- or they stand already
-pub axes-stand : (q j : ℕ) (old : List ℕ) → StreamRight q (limitIn old) old j → AxesFilled q old old j
-axes-stand q j old right = record { size = refl; kept = λ i h. refl; entry = right }
+-- Places behind those that are filled are as before
+from-after : (at : ℕ) (f : ℕ → ℕ) (k : ℕ) (l : List ℕ) (i : ℕ) → at + k ≤ i → getD (filledFrom at f k l) i 0 ≡ getD l i 0
+unfolding filledFrom
+from-after at f zero l i h = refl
+from-after at f (suc k) l i h =
+    getD-set-other (filledFrom at f k l) (at + k) i (f k) 0 (ne-of-gt (omega arith)) ∙ from-after at f k l i (omega arith)
+
+-- Where each place has its value already nothing is changed
+from-stand : (at : ℕ) (f : ℕ → ℕ) (k : ℕ) (l : List ℕ) → ((i : ℕ) → i < k → getD l (at + i) 0 ≡ f i) → filledFrom at f k l ≡ l
+unfolding filledFrom
+from-stand at f zero l h = refl
+from-stand at f (suc k) l h =
+    ap₂ (λ (x : List ℕ) (u : ℕ). set x (at + k) u) (from-stand at f k l (λ i m. h i (omega arith))) (sym (h k (omega arith)))
+    ∙ set-getD l (at + k) 0
+
+-- An axis's entries filled in by a rule are its entries
+module _ (old : List ℕ) (at w to : ℕ) (room : to + 2 ^ w ≤ length old) where
+  abbrev entriesFilled : List ℕ
+  entriesFilled = filledFrom to (axisReach (limitIn old) at w) (2 ^ w) old
+
+  whole-axis : at + (w - w) ≡ at
+  whole-axis = omega arith
+
+  axis-by-rule : AxisFilled old entriesFilled at w to w
+  axis-by-rule = record {
+    size = from-length to _ (2 ^ w) old;
+    kept = keeps;
+    each = λ g h. rw whole-axis (from-at to _ (2 ^ w) old g 0 h room);
+  }
+    where
+      keeps : (i : ℕ) → (i < to) ⊎ (to + 2 ^ w ≤ i) → getD entriesFilled i 0 ≡ getD old i 0
+      keeps i (inl h) = from-before to _ (2 ^ w) old i 0 h
+      keeps i (inr h) = from-after to _ (2 ^ w) old i h
+
+  -- and no other array has them
+  pub axis-is : (new : List ℕ) → AxisFilled old new at w to w → new ≡ entriesFilled
+  axis-is new a = ext-getD 0 new entriesFilled (a .size ∙ sym (axis-by-rule .size)) (λ i h. go i (decLt i to) (decLt i (to + 2 ^ w)))
+    where
+      go : (i : ℕ) → Dec (i < to) → Dec (i < to + 2 ^ w) → getD new i 0 ≡ getD entriesFilled i 0
+      go i (yes l) k = a .kept i (inl l) ∙ sym (axis-by-rule .kept i (inl l))
+      go i (no l) (no k) = a .kept i (inr (omega arith)) ∙ sym (axis-by-rule .kept i (inr (omega arith)))
+      go i (no l) (yes k) =
+          let e : to + (i - to) ≡ i = omega arith in
+          rw e at (a .each (i - to) (omega arith) ∙ sym (axis-by-rule .each (i - to) (omega arith)))
+
+-- The two axes of a stream
+module _ (q j : ℕ) (old : List ℕ) (few : q ≤ mostWidth) (label : j * q + q ≤ mostBits) (inside : j < mostStreams)
+    (room : length old ≡ limitsSize) where
+  abbrev one : List ℕ
+  one = axisIn q (limitIn old) j real old
+
+  one-size : length one ≡ limitsSize
+  one-size = from-length (entryPlace j real) _ (2 ^ axisBits q real) old ∙ room
+
+  pub real-room : entryPlace j real + 2 ^ axisBits q real ≤ length old
+  real-room = omega (arith, pow-mono (axis-few q real few))
+
+  pub imaginary-room : entryPlace j imaginary + 2 ^ axisBits q imaginary ≤ length one
+  imaginary-room = omega (arith, one-size, pow-mono (axis-few q imaginary few))
+
+  -- The second finds the limits as they were
+  second-same : axisIn q (limitIn one) j imaginary one ≡ axesIn q old j
+  unfolding axesIn
+  second-same =
+      from-same (entryPlace j imaginary) _ _ (2 ^ axisBits q imaginary) one
+      (λ g h. axis-same (limitIn one) (limitIn old) (axisStart q j imaginary) (axisBits q imaginary) g
+      (λ i k l. from-before (entryPlace j real) _ (2 ^ axisBits q real) old i 0 (omega (arith, label))))
+
+  pub axes-in : AxesFilled q old (axesIn q old j) j
+  axes-in =
+      subst (λ (x : List ℕ). AxesFilled q old x j) second-same
+      (axes-filled q j few label (axis-by-rule old (axisStart q j real) (axisBits q real) (entryPlace j real) real-room)
+      (axis-by-rule one (axisStart q j imaginary) (axisBits q imaginary) (entryPlace j imaginary) imaginary-room))
+
+  -- They are filled, one after the other,
+  pub axes-are : (mid new : List ℕ) → AxisFilled old mid (axisStart q j real) (axisBits q real) (entryPlace j real) (axisBits q real)
+      → AxisFilled mid new (axisStart q j imaginary) (axisBits q imaginary) (entryPlace j imaginary) (axisBits q imaginary)
+      → new ≡ axesIn q old j
+  axes-are mid new first second =
+      let e = axis-is old (axisStart q j real) (axisBits q real) (entryPlace j real) real-room mid first in
+      axis-is one (axisStart q j imaginary) (axisBits q imaginary) (entryPlace j imaginary) imaginary-room new
+      (subst (λ (x : List ℕ). AxisFilled x new (axisStart q j imaginary) (axisBits q imaginary) (entryPlace j imaginary) (axisBits q imaginary)) e second)
+      ∙ second-same
+
+  -- or they stand already
+  pub axes-stand : StreamRight q (limitIn old) old j → old ≡ axesIn q old j
+  unfolding axesIn
+  axes-stand right =
+      let first : one ≡ old = from-stand (entryPlace j real) _ (2 ^ axisBits q real) old (right real) in
+      sym (ap (axisIn q (limitIn old) j imaginary) first ∙ from-stand (entryPlace j imaginary) _ (2 ^ axisBits q imaginary) old (right imaginary))
 
 -- and then the widest limit of the streams up to the stream
 module _ {q j : ℕ} {old mid : List ℕ} (inside : j < mostStreams) (room : length old ≡ limitsSize) (axes : AxesFilled q old mid j) where
   own : streamReach q mid j (2 ^ q - 1) ≡ widestOf (λ _. true) (limitIn old) (j * q) q
   own = stream-is q (limitIn old) mid j (2 ^ q - 1) (axes .entry) (ones-lt q) ∙ all-ones (limitIn old) (j * q) q
+
+  pub widest-is : max (getD mid (firstPlace j) 0) (streamReach q mid j (2 ^ q - 1))
+      ≡ max (getD old (firstPlace j) 0) (widestOf (λ _. true) (limitIn old) (j * q) q)
+  widest-is = ap₂ max (axes .kept (firstPlace j) (inl (omega arith))) own
 
   pub stream-filled : (widest : ℕ) → widest ≡ max (getD mid (firstPlace j) 0) (streamReach q mid j (2 ^ q - 1))
       → StreamFilled q old (set mid (firstPlace (j + 1)) widest) j
@@ -169,3 +280,29 @@ module _ {q j : ℕ} (old : List ℕ) {now new : List ℕ} (few : q ≤ mostWidt
       entry = λ i h x g k. each i h x g k (decLt i j);
     };
   })
+
+-- What filling in a stream makes
+pub stream-in : (q j : ℕ) (old : List ℕ) → q ≤ mostWidth → j * q + q ≤ mostBits → j < mostStreams → length old ≡ limitsSize
+    → StreamFilled q old (streamIn q old j) j
+unfolding streamIn
+stream-in q j old few label inside room =
+    let axes = axes-in q j old few label inside room in
+    let widest = max (getD old (firstPlace j) 0) (widestOf (λ _. true) (limitIn old) (j * q) q) in
+    subst (λ (n : ℕ). StreamFilled q old (set (axesIn q old j) (firstPlace n) widest) j) (add-one j)
+    (stream-filled inside room axes widest (sym (widest-is inside room axes)))
+
+-- and all of the first k
+module _ {m q : ℕ} (old : List ℕ) (streams : m ≤ mostStreams) (few : q ≤ mostWidth) (label : m * q ≤ mostBits)
+    (room : length old ≡ limitsSize) where
+  pub filling : (k : ℕ) → k ≤ m → Filling q old (reachesIn q old k) k
+  unfolding reachesIn
+  filling zero h = reaches-none q old room
+  filling (suc k) h =
+      let so-far = filling k (omega arith) in
+      let bits = bits-few q k m h label in
+      subst (Filling q old (reachesIn q old (suc k))) (add-one k)
+      (reaches-more old few bits so-far (stream-in q k (reachesIn q old k) few bits (omega arith) (so-far .made .size)))
+
+  -- The array has what the limits of all streams give
+  pub reaches : {new : List ℕ} → new ≡ reachesIn q old m → Reaches q (limitIn old) new m
+  reaches e = subst (λ (x : List ℕ). Reaches q (limitIn old) x m) (sym e) (filling m (le-refl m) .made)

@@ -1,13 +1,13 @@
 -- What a label's limits give, in one array behind them: the widest limit of the first streams, for each number of these; and for each
 -- label of an axis the widest limit of the bits that are 1 in it.
-use Prim.Native.Nat.{ℕ, suc, _+_, _-_, _*_, _/_, _%_, _^_, _≤_, _<_, max}
+use Prim.Native.Nat.{ℕ, zero, suc, _+_, _-_, _*_, _/_, _%_, _^_, _≤_, _<_, max}
 use mathlib.Core.Path.{_≡_}
 use mathlib.Core.Bool.{true}
 use mathlib.Core.List.{List}
 use mathlib.Core.Logic.{_⊎_}
-use lib.ListN.{length, getD, take, drop}
+use lib.ListN.{length, getD, set, take, drop}
 use Rattle.model.specs.Block.{mostStreams, mostBits}
-use Rattle.metric.specs.Parts.{span, bitOf}
+use Rattle.metric.specs.Parts.{span, bitOf, filledFrom}
 use Rattle.metric.specs.Tables.{Axis, axisBits}
 use Rattle.metric.specs.Tables.Axis.{real, imaginary}
 use Rattle.pruning.specs.Reach.{widestOf}
@@ -80,20 +80,20 @@ pub record AxisFilled (old new : List ℕ) (at w to b : ℕ) : Type 0 where
   pub kept : (i : ℕ) → (i < to) ⊎ (to + 2 ^ w ≤ i) → getD new i 0 ≡ getD old i 0
   pub each : (g : ℕ) → g < 2 ^ b → getD new (to + g) 0 ≡ axisReach (limitIn old) (at + (w - b)) b g
 
--- A place that is not one of stream j's entries
-abbrev pub Elsewhere : ℕ → ℕ → Type 0
-Elsewhere j i = (i < entryPlace j real) ⊎ (entryPlace (suc j) real ≤ i)
+-- An array with the entries of an axis of stream j, what the limits give
+abbrev pub axisIn : ℕ → (ℕ → ℕ) → ℕ → Axis → List ℕ → List ℕ
+axisIn q limit j x = filledFrom (entryPlace j x) (axisReach limit (axisStart q j x) (axisBits q x)) (2 ^ axisBits q x)
 
--- Stream j's entries: the other places are as before
-pub record AxesFilled (q : ℕ) (old new : List ℕ) (j : ℕ) : Type 0 where
-  pub size : length new ≡ length old
-  pub kept : (i : ℕ) → Elsewhere j i → getD new i 0 ≡ getD old i 0
-  pub entry : StreamRight q (limitIn old) new j
+-- with those of both axes
+unfoldable pub axesIn : ℕ → List ℕ → ℕ → List ℕ
+axesIn q limits j = axisIn q (limitIn limits) j imaginary (axisIn q (limitIn limits) j real limits)
 
--- Stream j's entries and the widest limit of the streams up to it
-pub record StreamFilled (q : ℕ) (old new : List ℕ) (j : ℕ) : Type 0 where
-  pub size : length new ≡ length old
-  pub before : (i : ℕ) → i ≤ firstPlace j → getD new i 0 ≡ getD old i 0
-  pub others : (i : ℕ) → axisEntries ≤ i → Elsewhere j i → getD new i 0 ≡ getD old i 0
-  pub first : getD new (firstPlace (suc j)) 0 ≡ max (getD old (firstPlace j) 0) (widestOf (λ _. true) (limitIn old) (j * q) q)
-  pub entry : StreamRight q (limitIn old) new j
+-- with the widest limit of the streams up to it, too
+unfoldable pub streamIn : ℕ → List ℕ → ℕ → List ℕ
+streamIn q limits j =
+    set (axesIn q limits j) (firstPlace (suc j)) (max (getD limits (firstPlace j) 0) (widestOf (λ _. true) (limitIn limits) (j * q) q))
+
+-- and with all that the limits of the first k streams give: the other places are as before
+unfoldable pub reachesIn : ℕ → List ℕ → ℕ → List ℕ
+reachesIn q limits zero = set limits mostBits 0
+reachesIn q limits (suc k) = streamIn q (reachesIn q limits k) k

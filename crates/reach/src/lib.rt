@@ -7,7 +7,7 @@ ghost use Prim.Native.Nat.{_+_, _*_, _-_, _<_, _≤_, _^_, max};
 ghost use lib.ListN.{length, getD};
 ghost use Rattle.model.specs.Block.{mostStreams, mostWidth, mostBits};
 ghost use Rattle.metric.specs.Parts.{axisWidth, filledFrom};
-ghost use Rattle.reach.specs.Reach.{limitIn, limitsSize, StreamRight, StandsFor, AxisFilled, AxesFilled, StreamFilled, Reaches, streamReach, chosenReach};
+ghost use Rattle.reach.specs.Reach.{limitIn, limitsSize, StreamRight, StandsFor, AxisFilled, axesIn, streamIn, reachesIn, streamReach, chosenReach};
 
 // The places of the array of limits: first a label's bits, then, from here on, the widest limits of the first streams;
 pub const FIRST: usize = 24;
@@ -90,7 +90,7 @@ pub fn stream_reach(q: usize, limits: &[u64], j: usize, symbol: usize) -> u64
 fn fill_axes(q: usize, limits: &mut [u64], j: usize, changed: usize)
     requires { ⌜ (q ≤ mostWidth) × (j < mostStreams) × (j * q + q ≤ mostBits) × (length (now limits) ≡ limitsSize)
         × (changed ≡ 0 → StreamRight q (limitIn (now limits)) (now limits) j) ⌝ }
-    ensures { λ _. ⌜ AxesFilled q (now (limits .entry)) (now (limits .exit)) j ⌝ }
+    ensures { λ _. ⌜ now (limits .exit) ≡ axesIn q (now (limits .entry)) j ⌝ }
 {
     if changed == 0 {
         return;
@@ -105,7 +105,7 @@ fn fill_axes(q: usize, limits: &mut [u64], j: usize, changed: usize)
 fn fill_stream(q: usize, limits: &mut [u64], j: usize, changed: usize)
     requires { ⌜ (q ≤ mostWidth) × (j < mostStreams) × (j * q + q ≤ mostBits) × (length (now limits) ≡ limitsSize)
         × (changed ≡ 0 → StreamRight q (limitIn (now limits)) (now limits) j) ⌝ }
-    ensures { λ _. ⌜ StreamFilled q (now (limits .entry)) (now (limits .exit)) j ⌝ }
+    ensures { λ _. ⌜ now (limits .exit) ≡ streamIn q (now (limits .entry)) j ⌝ }
 {
     fill_axes(q, limits, j, changed);
     let own = stream_reach(q, limits, j, (1 << q) - 1);
@@ -117,7 +117,7 @@ fn fill_stream(q: usize, limits: &mut [u64], j: usize, changed: usize)
 pub fn fill(m: usize, q: usize, limits: &mut [u64], changed: u32)
     requires { ⌜ (m ≤ mostStreams) × (q ≤ mostWidth) × (m * q ≤ mostBits) × (length (now limits) ≡ limitsSize)
         × StandsFor m q changed (now limits) ⌝ }
-    ensures { λ _. ⌜ Reaches q (limitIn (now (limits .entry))) (now (limits .exit)) m ⌝ }
+    ensures { λ _. ⌜ now (limits .exit) ≡ reachesIn q (now (limits .entry)) m ⌝ }
 {
     limits[FIRST] = 0;
     let mut j = 0;

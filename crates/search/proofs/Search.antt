@@ -1,33 +1,28 @@
 -- The search below a node by its steps: the state before a child is tried, and what a turn makes of it.
-use Prim.Native.Nat.{ℕ, _+_, _-_, _*_, _^_, _≤_, _<_, max}
-use mathlib.Core.Path.{_≡_, refl, sym, _∙_, ap, ap₂, subst}
+use Prim.Native.Nat.{ℕ, _+_, _-_, _*_, _^_, _≤_, _<_}
+use mathlib.Core.Path.{_≡_, refl, sym, _∙_, ap, subst}
 use mathlib.Core.Bool.{Bool, true, false}
 use mathlib.Core.List.{List, _++_}
-use mathlib.Core.Logic.{_⊎_, ⊎-elim}
-use native.Mathlib.Nat.{le-of-lt, le-trans, lt-of-le-of-lt, min-eq-left}
+use native.Mathlib.Nat.{le-of-lt, le-trans, lt-of-le-of-lt}
 use native.Mathlib.Omega.{arith}
-use borrow.Author.Tests.{le-ltb}
 use lib.ListN.{length, getD, set, take, drop, take-append-drop}
 use lib.IntN.{ℤ}
 use Rattle.model.specs.Metric.{Vector}
 use Rattle.block.proofs.Places.{rows-count}
 use Rattle.model.specs.Block.{mostWidth}
 use Rattle.pruning.specs.Arrays.{leastFirst}
-use Rattle.pruning.specs.Program.{above, largestPartial, Taken, Kept, keptOf, passing, noted, chosen, keyOf, childOf, testOf, below, restOf}
-use Rattle.pruning.specs.Counted.{countedTo, Idle}
+use Rattle.pruning.specs.Program.{above, largestPartial, Taken, Kept, keptOf, passing, noted, chosen, keyOf, childOf, below, restOf}
 use Rattle.pruning.proofs.Arrays.{Same, Held, held-least, held-set, held-same, same-part}
 use Rattle.pruning.proofs.Bounds.{kept-falls, symbol-inside, key-bound, keys-held, partial-low, child-placed, child-by}
 use Rattle.pruning.proofs.Turns.{rest-start, rest-same, rest-done, rest-cut, rest-halted, rest-stopped, rest-onward}
 use Rattle.pruning.proofs.Early.{rest-beyond, below-shut}
-use Rattle.pruning.proofs.Counted.{count-same, below-counted}
 use Rattle.siblings.specs.Rows.{keyCount, RowLeast, Took}
 use Rattle.siblings.proofs.Rows.{row-least-front}
 use Rattle.siblings.proofs.Taking.{took-same}
-use Rattle.tally.specs.Tally.{oppositeReach, childPasses}
 use Rattle.leaves.specs.Limits.{vectorAt, LimitsAsked, Limited}
 use Rattle.search.specs.Limits.{passesAt, opposite}
 use Rattle.search.specs.Turn.{behind, NextAsked, nextOf, NodeAsked, Renewal}
-use Rattle.children.specs.Expand.{NodeIn, kidOf, Shut, boundsOf, BelowCounted, Filled}
+use Rattle.children.specs.Expand.{NodeIn, Shut, Filled}
 use Rattle.children.specs.declared.Node.{Node}
 use Rattle.children.proofs.Rows.{key-by}
 use Rattle.children.proofs.Nodes.{keys-rise, room-for, in-range, within, chosen-few, node-placed, level-up, some, row-inside, kid-low}
@@ -115,78 +110,6 @@ module _ {m q clip : ℕ} {numbers : List ℤ} {n : Node} (w : NodeIn m q clip n
           limited = limited;
           opposed = opposed;
         }
-
--- As many children of a node pass, below which nothing does: the search below it counts them, as far as the allowance goes
-module _ {m q clip : ℕ} {numbers : List ℤ} {n : Node} (w : NodeIn m q clip numbers n) (t : Taken) (limits : List ℕ)
-    (limited : Limited (vectorAt m q clip numbers) t limits) (opposed : n .chosen ≡ opposite m q limits (t .label) (n .level) (n .bits))
-    {count : ℕ} (c : BelowCounted m q numbers n (t .label) (t .best) limits count) where
-  inner : 0 < n .level
-  inner = omega (arith, c .above-leaves)
-
-  -- The child with symbol s
-  abbrev kid : ℕ → Node
-  kid s = record {
-    level = n .level - 1;
-    bits = s * 2 ^ ((m - n .level) * q) + n .bits;
-    partial = kidOf m q numbers n s;
-    chosen = max (oppositeReach m q (t .label) limits (n .level - 1) s) (n .chosen);
-  }
-
-  module _ (s : ℕ) (h : s < 2 ^ q) where
-    kid-key : kidOf m q numbers n s ≡ keyOf (v w) (n .level - 1) (n .bits) (n .partial) s
-    kid-key = key-by m q numbers (w .asked .vector) clip (n .level - 1) (n .bits) (n .partial) s (row-inside w inner)
-
-    kid-is : kid s .bits ≡ childOf (v w) (n .level - 1) (n .bits) s
-    kid-is = child-by (v w) (n .level) (some w inner) (within w) m (n .bits) s (kid s .bits) (sym (streams w)) refl
-
-    kid-bound : kidOf m q numbers n s ≤ largestPartial (v w) (n .level - 1)
-    kid-bound = rw kid-key (key-bound (v w) (n .level) (some w inner) (within w) (in-range w) (n .partial) (w .bounded) (n .bits) s)
-
-    kid-in : NodeIn m q clip numbers (kid s)
-    kid-in = record {
-      asked = w .asked;
-      inside = omega (arith, w .inside);
-      placed = child-placed (v w) (n .level) (some w inner) (within w) (n .bits) s (kid s .bits) h (w .placed) kid-is;
-      bounded = kid-bound;
-    }
-
-    kid-opposed : kid s .chosen ≡ opposite m q limits (t .label) (kid s .level) (kid s .bits)
-    kid-opposed =
-        rw opposed
-        (sym (child-reach (v w) t limits limited m (sym (streams w)) (n .level) (n .bits) s 0 (some w inner) (w .inside) (node-placed w)
-        (w .asked .vector .bits) h))
-
-    -- Its test is the definition's
-    kid-passes : childPasses m q (n .level) (boundsOf (t .best) limits n) (t .label) limits (kidOf m q numbers n) s
-        ≡ testOf (v w) (n .level - 1) (n .bits) s (keyOf (v w) (n .level - 1) (n .bits) (n .partial) s) t
-    unfolding childPasses passesAt
-    kid-passes =
-        ap (λ (x : ℕ). passesAt (t .best) limits x (kidOf m q numbers n s) (n .level - 1)) kid-opposed
-        ∙ sym (passing-by (v w) t limits limited m (sym (streams w)) (n .level - 1) (kid s .bits) (omega (arith, w .inside)) (kidOf m q numbers n s)
-        (kid-low w inner s))
-        ∙ ap₂ (λ (x y : ℕ). passing (v w) t x ((n .level - 1) * q) y) kid-key kid-is
-
-    -- Below it nothing changes
-    kid-idle : (allowance : ℕ) → childPasses m q (n .level) (boundsOf (t .best) limits n) (t .label) limits (kidOf m q numbers n) s ≡ true
-        → Idle (v w) allowance (n .level - 1) (childOf (v w) (n .level - 1) (n .bits) s) (keyOf (v w) (n .level - 1) (n .bits) (n .partial) s) t
-    kid-idle allowance e before =
-        sym
-        (shut kid-in (omega (arith, c .above-leaves)) t limits limited kid-opposed allowance cuts before false refl
-        ∙ ap₂ (λ (x y : ℕ). below (v w) allowance (n .level - 1) x y (keptOf before false t)) kid-is kid-key)
-      where
-        cuts : Shut m q numbers (kid s) (t .label) (t .best) limits
-        cuts r l =
-            let two : n .level - 1 - 1 ≡ n .level - 2 = omega arith in
-            rw two (c .counted .idle s h e r l)
-
-  pub counted-below : (allowance before : ℕ) → before ≤ allowance
-      → below (v w) allowance (n .level) (n .bits) (n .partial) (keptOf before false t) ≡ countedTo allowance (before + count) t
-  counted-below allowance before few =
-      ap (λ (l : ℕ). below (v w) allowance l (n .bits) (n .partial) (keptOf before false t)) (level-up w inner)
-      ∙ below-counted (v w) allowance (n .level - 1) (n .bits) (n .partial) (keptOf before false t) refl few
-      (λ s h. lt-of-le-of-lt (key-bound (v w) (n .level) (some w inner) (within w) (in-range w) (n .partial) (w .bounded) (n .bits) s) (partial-low (v w) (in-range w) (n .level - 1)))
-      (λ s h e. kid-idle s h allowance (kid-passes s h ∙ e))
-      ∙ ap (λ (x : ℕ). countedTo allowance (before + x) t) (sym (c .counted .count-is ∙ count-same _ _ (2 ^ q) kid-passes))
 
 -- A turn
 module _ {m q clip : ℕ} {numbers : List ℤ} {allowance : ℕ} {n : Node} {whole : Kept} {tried : ℕ} {keys : List ℕ} {k : Kept}
@@ -330,27 +253,16 @@ module _ {m q clip : ℕ} {numbers : List ℤ} {allowance : ℕ} {n : Node} {who
         abbrev Found : Kept → Type 0
         Found u = u ≡ below at allowance (next .level) (next .bits) (next .partial) (keptOf (k .count + 1) false (k .taken))
 
-        -- None of its own children passes, or some do, below which nothing does
-        pub left : 0 < next .level → {count : ℕ}
-            → ((count ≡ 0) × Shut m q numbers next (k .taken .label) (k .taken .best) limits)
-            ⊎ BelowCounted m q numbers next (k .taken .label) (k .taken .best) limits count
-            → Found (countedTo allowance (k .count + 1 + count) (k .taken))
-        left inner {count} =
-            let few : k .count + 1 ≤ allowance = omega arith in
-            ⊎-elim
-            (λ x.
-            let total : k .count + 1 + count ≡ k .count + 1 = omega (arith, x .0) in
-            rw (total, min-eq-left few, le-ltb allowance (k .count + 1) few)
-            (shut child-in inner (k .taken) limits (h .limited) opposed allowance (x .1) (k .count + 1) false refl))
-            (λ x. sym (counted-below child-in (k .taken) limits (h .limited) opposed x allowance (k .count + 1) few))
-
-        -- and the search goes on
-        pub past : (u : Kept) → Found u → u .taken ≡ k .taken → u .stopped ≡ false → Further u
-        past u is same running =
-            onward-with u same running
+        -- All of its own children would be cut: the search goes on
+        pub past : 0 < next .level → Shut m q numbers next (k .taken .label) (k .taken .best) limits
+            → Further (keptOf (k .count + 1) (k .stopped) (k .taken))
+        past inner cuts =
+            let u = keptOf (k .count + 1) (k .stopped) (k .taken) in
+            onward-with u refl (h .running)
             (h .left
             ∙ rest-onward at (2 ^ q) refl allowance (n .bits) (n .level - 1) tried keys k more s refl (next .bits) child-is
-            (sym (sym passes-is ∙ passes)) (h .running) counts u is running)
+            (sym (sym passes-is ∙ passes)) (h .running) counts u
+            (shut child-in inner (k .taken) limits (h .limited) opposed allowance cuts (k .count + 1) (k .stopped) (h .running)) (h .running))
 
         -- It is searched
         module _ (u : Kept) (is : Found u) where

@@ -8,7 +8,7 @@ use lib.ListN.{getD}
 use lib.IntN.{ℤ}
 use Rattle.model.specs.Metric.{Vector}
 use Rattle.model.specs.Block.{mostWidth}
-use Rattle.reach.specs.Reach.{firstPlace, chosenReach}
+use Rattle.reach.specs.Reach.{firstPlace, streamReach, symbolOf, chosenReach}
 use Rattle.siblings.specs.Rows.{keyCount}
 use Rattle.leaves.specs.declared.Sizes.{Sizes}
 use Rattle.leaves.specs.Limits as leaves
@@ -37,6 +37,10 @@ passesAt best limits chosen d level = leb d best || (ltb d (getD limits (firstPl
 abbrev pub opposite : ℕ → ℕ → List ℕ → ℕ → ℕ → ℕ → ℕ
 opposite m q limits label level bits = chosenReach m q limits level (bitXor bits label)
 
--- The same test with that limit looked up
+-- The same of the bits of symbol s at stream j
+abbrev pub oppositeReach : ℕ → ℕ → ℕ → List ℕ → ℕ → ℕ → ℕ
+oppositeReach m q label limits j s = streamReach q limits j (bitXor s (symbolOf m q label j))
+
+-- The pass test with a node's limit looked up
 abbrev pub passesBy : ℕ → ℕ → ℕ → ℕ → List ℕ → ℕ → ℕ → ℕ → Bool
 passesBy m q label best limits d level bits = passesAt best limits (opposite m q limits label level bits) d level

@@ -3,7 +3,6 @@ use Prim.Native.Nat.{ℕ, _+_, _-_, _*_, _≤_, _<_, _^_, max}
 use mathlib.Core.Path.{_≡_}
 use mathlib.Core.Bool.{true, false}
 use mathlib.Core.List.{List}
-use mathlib.Core.Logic.{_⊎_}
 use lib.IntN.{ℤ}
 use lib.ListN.{length, getD, take, drop}
 use Rattle.model.specs.Block.{mostStreams, mostWidth, mostBits}
@@ -13,10 +12,9 @@ use Rattle.pruning.specs.Arrays.{leastFirst}
 use Rattle.pruning.specs.Program.{above, Taken}
 use Rattle.reach.specs.Reach.{limitsSize}
 use Rattle.siblings.specs.Rows.{keyCount, RowLeast, Took}
-use Rattle.tally.specs.Tally.{oppositeReach}
 use Rattle.leaves.specs.Limits.{vectorAt, LimitsAsked, Limited}
-use Rattle.search.specs.Limits.{passesAt, opposite}
-use Rattle.children.specs.Expand.{NodeIn, Shut, BelowCounted, Filled}
+use Rattle.search.specs.Limits.{passesAt, opposite, oppositeReach}
+use Rattle.children.specs.Expand.{NodeIn, Shut, Filled}
 use Rattle.search.specs.declared.Task.{Task}
 use Rattle.children.specs.declared.Node.{Node}
 use Rattle.leaves.specs.declared.Kept.{Kept}
@@ -65,8 +63,8 @@ pub record AdvanceAsked (t : Task) (points numbers tables : List ℤ) (n : Node)
   pub room : n .level * keyCount (t .width) ≤ length keys
 
 -- What a turn comes to. The children end where the node itself fails with the smallest key left; the child with that key fails, or passes
--- with the allowance used up, or is counted. Then it is a leaf, or all of its own children would be cut, or some pass below which nothing
--- does, or their keys stand behind the node's
+-- with the allowance used up, or is counted. Then it is a leaf, or all of its own children would be cut, or their keys stand behind the
+-- node's
 module _ (t : Task) (numbers : List ℤ) (n : Node) (k : Kept) (limits old new : List ℕ) where
   abbrev child : Node
   child = nextOf (t .streams) (t .width) n (k .label) limits old
@@ -79,16 +77,11 @@ module _ (t : Task) (numbers : List ℤ) (n : Node) (k : Kept) (limits old new :
     pub passes : passesAt (k .best) limits (child .chosen) (child .partial) (child .level) ≡ true
     pub more : k .count < t .allowance
 
-  abbrev pub LeftOver : ℕ → Type 0
-  LeftOver count =
-      ((count ≡ 0) × Shut (t .streams) (t .width) numbers child (k .label) (k .best) limits)
-      ⊎ BelowCounted (t .streams) (t .width) numbers child (k .label) (k .best) limits count
-
   abbrev pub Advanced : Turn → Type 0
   Advanced Ended = passesAt (k .best) limits (n .chosen) (child .partial) (n .level) ≡ false
   Advanced Cut = taken × (passesAt (k .best) limits (child .chosen) (child .partial) (child .level) ≡ false)
   Advanced Stop = (passesAt (k .best) limits (child .chosen) (child .partial) (child .level) ≡ true) × (t .allowance ≤ k .count)
-  Advanced (Left more) = Counts × (0 < child .level) × LeftOver more
+  Advanced Left = Counts × (0 < child .level) × Shut (t .streams) (t .width) numbers child (k .label) (k .best) limits
   Advanced (Leaf c) = Counts × (c ≡ child) × (child .level ≡ 0)
   Advanced (Enter c) =
       Counts × (c ≡ child) × (0 < child .level) × Filled (t .streams) (t .width) numbers child (behind (t .width) new)

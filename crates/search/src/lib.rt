@@ -1,5 +1,4 @@
 // The search of one vector (document 01, "The walk"): the next child, the pass test, and the walk under an allowance.
-use children::Children;
 use children::Node;
 use constellation::PLACES;
 use leaves::Best;
@@ -12,8 +11,7 @@ use siblings::ABOVE;
 use siblings::Row;
 ghost use mathlib.Core.Path.{_≡_};
 ghost use mathlib.Core.Bool.{true, false};
-ghost use Prim.Native.Nat.{_+_, _*_, _-_, _<_, _≤_, _^_, min};
-ghost use lib.Dec.{ltb};
+ghost use Prim.Native.Nat.{_+_, _*_, _-_, _<_, _≤_, _^_};
 ghost use lib.ListN.{length};
 ghost use Rattle.model.specs.Block.{mostStreams, mostWidth, mostBits};
 ghost use Rattle.constellation.specs.Points.{Points};
@@ -27,13 +25,13 @@ ghost use Rattle.search.specs.Limits.{sizesOf, vectorFor, Asked, keyPlac
 ghost use Rattle.search.specs.Turn.{NextAsked, NextChild, AdvanceAsked, Advanced, Renewal, NodeAsked};
 ghost use Rattle.search.specs.Values.{Answered};
 
-// What a turn over a node's children came to: no child that is left passes; the next child is cut; the allowance is used up; the child is
-// counted, and so many of its own children pass, below which nothing does; it is a leaf; or it is to be searched.
+// What a turn over a node's children came to: no child that is left passes; the next child is cut; the allowance is used up; or the child is
+// to be counted, and then left, since all of its own children would be cut, or taken as a leaf, or searched.
 enum Turn {
     Ended,
     Cut,
     Stop,
-    Left(u32),
+    Left,
     Leaf(Node),
     Enter(Node),
 }
@@ -145,28 +143,6 @@ fn counted(kept: Kept) -> Kept
     }
 }
 
-// One node more is counted, and some of its children, as far as the allowance goes.
-fn counted_with(task: Task, kept: Kept, more: u32) -> Kept
-    ensures { λ r. ⌜ (r .count ≡ min (kept .count + 1 + more) (task .allowance)) × (r .stopped ≡ ltb (task .allowance) (kept .count + 1 + more))
-        × (r .label ≡ kept .label) × (r .best ≡ kept .best) ⌝ }
-{
-    let total = kept.count as u64 + 1 + more as u64;
-    if (task.allowance as u64) < total {
-        return Kept {
-            count: task.allowance,
-            stopped: true,
-            label: kept.label,
-            best: kept.best,
-        };
-    }
-    Kept {
-        count: total as u32,
-        stopped: false,
-        label: kept.label,
-        best: kept.best,
-    }
-}
-
 // The allowance is used up.
 fn halted(kept: Kept) -> Kept
     ensures { λ r. ⌜ (r .count ≡ kept .count) × (r .stopped ≡ true) × (r .label ≡ kept .label) × (r .best ≡ kept .best) ⌝ }
@@ -209,7 +185,7 @@ fn advance(
         return Turn::Leaf(child);
     }
     let places = key_places(task.width);
-    match children::expand(
+    if !children::expand(
         sizes_of(task),
         child,
         kept,
@@ -219,10 +195,9 @@ fn advance(
         limits,
         &mut keys[places..],
     ) {
-        Children::Nothing => Turn::Left(0),
-        Children::Number(count) => Turn::Left(count),
-        Children::Keys => Turn::Enter(child),
+        return Turn::Left;
     }
+    Turn::Enter(child)
 }
 
 // The places of a node's keys: its children's, and the smallest of each row with its column.
@@ -285,11 +260,8 @@ fn walk(
         match advance(task, parent, k, points, numbers, tables, limits, keys) {
             Turn::Ended => return k,
             Turn::Stop => return halted(k),
-            Turn::Left(more) => {
-                k = counted_with(task, k, more);
-                if k.stopped {
-                    return k;
-                }
+            Turn::Left => {
+                k = counted(k);
             }
             Turn::Leaf(leaf) => {
                 let found = take_leaf(task, leaf, counted(k), numbers, minima);

@@ -1,7 +1,7 @@
 -- The keys of the children are filled in: a row's keys differ by their imaginary parts alone, so the column with the smallest imaginary
 -- part has each row's smallest key, and stands behind these for each row.
 use Prim.Native.Nat.{ℕ, _+_, _*_, _^_, _≤_, _<_}
-use mathlib.Core.Path.{_≡_, sym, ap, _∙_}
+use mathlib.Core.Path.{_≡_, refl, sym, ap, _∙_}
 use mathlib.Core.List.{List}
 use native.Mathlib.Omega.{arith}
 use lib.ListN.{length, getD, drop}
@@ -12,7 +12,7 @@ use Rattle.metric.proofs.Filled.{from-at, from-before, from-length}
 use Rattle.metric.proofs.Grid.{row-room, row-at, childrenOf}
 use Rattle.metric.proofs.Pass.{pass-length, pass-sums}
 use Rattle.pruning.specs.Arrays.{leastFirst}
-use Rattle.siblings.specs.Rows.{rowCount, columnCount, keyCount, columnMetric, sameColumn, rowColumn, Placed}
+use Rattle.siblings.specs.Rows.{rowCount, columnCount, keyCount, columnMetric, sameColumn, rowColumn, keysIn, Placed}
 use Rattle.siblings.proofs.Least.{First, first-is, part-first}
 
 -- All keys are filled in, behind them the column with the smallest imaginary part, and behind these that column for each row
@@ -78,9 +78,14 @@ module _ (q partial : ℕ) (axes keys : List ℕ) (column : ℕ) (wide : keyCoun
     };
   }
 
-pub placed : (q n c rows partial : ℕ) (axes old before behind new : List ℕ) (column : ℕ) → keyCount q ≤ length old → n ≡ 2 ^ q → c ≡ columnCount q
-    → rows ≡ rowCount q → column ≡ leastFirst (drop span axes) c → before ≡ measuredTo q partial axes (2 ^ q) old
+pub placed : {q partial : ℕ} {axes old new : List ℕ} → keyCount q ≤ length old → new ≡ keysIn q partial axes old → Placed q partial axes old new
+unfolding keysIn
+placed {q} {partial} {axes} {old} wide e = rw e (whole-placed q partial axes old _ wide refl)
+
+-- as the program fills them in
+pub keys-in : (q n c rows partial : ℕ) (axes old before behind new : List ℕ) (column : ℕ) → n ≡ 2 ^ q → c ≡ columnCount q → rows ≡ rowCount q
+    → column ≡ leastFirst (drop span axes) c → before ≡ measuredTo q partial axes (2 ^ q) old
     → behind ≡ filledFrom n (columnMetric (partial + imaginaryIn axes column) axes) rows before
-    → new ≡ filledFrom (n + rows) (sameColumn column) rows behind → Placed q partial axes old new
-placed q n c rows partial axes old before behind new column wide en ec er el eb ef e =
-    rw (e, ef, en, er, eb) (whole-placed q partial axes old column wide (el ∙ ap (leastFirst (drop span axes)) ec))
+    → new ≡ filledFrom (n + rows) (sameColumn column) rows behind → new ≡ keysIn q partial axes old
+unfolding keysIn
+keys-in q n c rows partial axes old before behind new column en ec er el eb ef e = rw (e, ef, en, er, eb, el, ec) refl

@@ -13,7 +13,7 @@ use Rattle.metric.proofs.Grid.{row-room}
 use Rattle.pruning.specs.Arrays.{leastFirst}
 use Rattle.pruning.specs.Program.{above}
 use Rattle.pruning.proofs.Arrays.{Same}
-use Rattle.siblings.specs.Rows.{rowCount, columnCount, rowColumn, rowLeast, RowLeast, LeastRow, Took}
+use Rattle.siblings.specs.Rows.{rowCount, columnCount, rowColumn, rowLeast, keysAfter, RowLeast, LeastRow, Took}
 use Rattle.siblings.proofs.Rows.{row, column, rows-first, row-column, row-key}
 
 -- The row of a child
@@ -125,17 +125,37 @@ least-row q n r a keys en er h ea =
           ∙ ap (λ (x : ℕ). getD keys x 0) (rows-first q keys a _ h fa refl);
     }
 
--- Taking the next child
-pub took : (q n c r : ℕ) (keys : List ℕ) (a b least : ℕ) → n ≡ 2 ^ q → c ≡ columnCount q → r ≡ rowCount q → RowLeast q keys
+-- The keys after the child of row a and column b is taken, which is the next
+after-is : (q : ℕ) (keys : List ℕ) (a b : ℕ) → b < columnCount q → a * columnCount q + b ≡ leastFirst keys (2 ^ q)
+    → let mid = overwritten (columnCount q) keys a b in
+    let least = rowColumn q mid a in
+    withColumn (2 ^ q) (rowCount q) (withLeast (2 ^ q) (columnCount q) mid a least) a least ≡ keysAfter q keys
+unfolding keysAfter
+after-is q keys a b lb first = rw (← first, row-of q a b lb) refl
+
+-- as the program takes it
+pub taken : (q n c r : ℕ) (keys : List ℕ) (a b least : ℕ) → n ≡ 2 ^ q → c ≡ columnCount q → r ≡ rowCount q → RowLeast q keys
     → a ≡ leastFirst (drop (2 ^ q) keys) (rowCount q) → b ≡ getD keys (n + r + a) 0
     → least ≡ leastFirst (drop (a * c) (overwritten c keys a b)) c
-    → Took q keys (withColumn n r (withLeast n c (overwritten c keys a b) a least) a least) (a * c + b)
-took q n c r keys a b least en ec er h fa eb el =
+    → (a * c + b ≡ leastFirst keys (2 ^ q))
+    × (withColumn n r (withLeast n c (overwritten c keys a b) a least) a least ≡ keysAfter q keys)
+taken q n c r keys a b least en ec er h fa eb el =
     let la = row q keys a _ h fa refl .below in
     let fb : b ≡ rowColumn q keys a = eb ∙ ap₂ (λ (x y : ℕ). getD keys (x + y + a) 0) en er ∙ h .column a la in
-    let fl = el ∙ ap (λ (x : ℕ). leastFirst (drop (a * x) (overwritten x keys a b)) x) ec in
     let lb = column q keys a b h fa fb .below in
-    rw (en, ec, er) (new-took q keys a b least h la lb fl (rows-first q keys a b h fa fb))
+    let first = rows-first q keys a b h fa fb in
+    rw (el, en, ec, er) (first, after-is q keys a b lb first)
+
+-- Taking the next child
+pub took : {q : ℕ} {old new : List ℕ} {symbol : ℕ} → RowLeast q old → symbol ≡ leastFirst old (2 ^ q) → new ≡ keysAfter q old
+    → Took q old new symbol
+took {q} {old} {new} {symbol} h es en =
+    let a = leastFirst (drop (2 ^ q) old) (rowCount q) in
+    let b = rowColumn q old a in
+    let la = row q old a _ h refl refl .below in
+    let lb = column q old a b h refl refl .below in
+    let first = rows-first q old a b h refl refl in
+    rw (es, en, ← first, ← after-is q old a b lb first) (new-took q old a b _ h la lb refl first)
 
 -- The keys after the next child is taken, but for what stands behind them
 pub took-same : {q : ℕ} {old new : List ℕ} {symbol : ℕ} → Took q old new symbol → Same (2 ^ q) (set old symbol above) new

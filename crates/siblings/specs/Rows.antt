@@ -4,7 +4,7 @@ use Prim.Native.Nat.{ℕ, _+_, _-_, _*_, _/_, _^_, _≤_, _<_}
 use mathlib.Core.Path.{_≡_}
 use mathlib.Core.List.{List}
 use lib.ListN.{length, getD, set, drop}
-use Rattle.metric.specs.Parts.{childMetric, realIn, imaginaryIn}
+use Rattle.metric.specs.Parts.{span, childMetric, realIn, imaginaryIn, measuredTo, filledFrom}
 use Rattle.pruning.specs.Arrays.{leastFirst}
 use Rattle.pruning.specs.Program.{above}
 
@@ -40,6 +40,23 @@ pub record RowLeast (q : ℕ) (keys : List ℕ) : Type 0 where
   pub wide : keyCount q ≤ length keys
   pub each : (a : ℕ) → a < rowCount q → getD keys (2 ^ q + a) 0 ≡ getD keys (rowLeast q keys a) 0
   pub column : (a : ℕ) → a < rowCount q → getD keys (2 ^ q + rowCount q + a) 0 ≡ rowColumn q keys a
+
+-- The keys after all children's are filled in, the smallest of each row behind them, and its column: the one with the smallest imaginary part.
+-- The other places are as before
+unfoldable pub keysIn : ℕ → ℕ → List ℕ → List ℕ → List ℕ
+keysIn q partial axes keys =
+    let column = leastFirst (drop span axes) (columnCount q) in
+    filledFrom (2 ^ q + rowCount q) (sameColumn column) (rowCount q)
+    (filledFrom (2 ^ q) (columnMetric (partial + imaginaryIn axes column) axes) (rowCount q) (measuredTo q partial axes (2 ^ q) keys))
+
+-- The keys after the next child is taken, the first of the smallest: its key is the sentinel, and its row's smallest key and column are those
+-- of what is left. The other places are as before
+unfoldable pub keysAfter : ℕ → List ℕ → List ℕ
+keysAfter q keys =
+    let symbol = leastFirst keys (2 ^ q) in
+    let a = symbol / columnCount q in
+    let rest = set keys symbol above in
+    set (set rest (2 ^ q + a) (getD rest (rowLeast q rest a) 0)) (2 ^ q + rowCount q + a) (rowColumn q rest a)
 
 -- The keys of all children are filled in
 pub record Placed (q partial : ℕ) (axes old new : List ℕ) : Type 0 where

@@ -7,7 +7,7 @@ ghost use lib.ListN.{length, drop};
 ghost use Rattle.model.specs.Block.{mostWidth};
 ghost use Rattle.metric.specs.Parts.{span, filledFrom, AllSmall};
 ghost use Rattle.pruning.specs.Arrays.{leastFirst};
-ghost use Rattle.siblings.specs.Rows.{rowCount, keyCount, columnMetric, sameColumn, RowLeast, Placed, LeastRow, Took};
+ghost use Rattle.siblings.specs.Rows.{rowCount, keyCount, columnMetric, sameColumn, RowLeast, LeastRow, keysIn, keysAfter};
 
 // Above every metric: the key of a child that was taken, and an infinite least metric.
 pub const ABOVE: u64 = 549755813888;
@@ -105,7 +105,7 @@ fn fill_columns(rows: usize, column: u64, at: usize, keys: &mut [u64])
 pub fn fill(q: usize, partial: u64, axes: &[u64; AXES], keys: &mut [u64])
     requires { ⌜ (q ≤ mostWidth) × (partial < 2 ^ 62) × (length (now axes) ≡ 2 * span) × AllSmall (now axes)
         × (keyCount q ≤ length (now keys)) ⌝ }
-    ensures { λ _. ⌜ Placed q partial (now (axes .entry)) (now (keys .entry)) (now (keys .exit)) ⌝ }
+    ensures { λ _. ⌜ now (keys .exit) ≡ keysIn q partial (now (axes .entry)) (now (keys .entry)) ⌝ }
 {
     metric::fill_children(q, partial, axes, keys);
     let column = least_first(axes, AXES / 2, 1 << (q / 2));
@@ -132,7 +132,7 @@ pub fn least_row(q: usize, keys: &[u64]) -> Row
 // row has another smallest one, which is looked for once, for its key and its column.
 pub fn take(q: usize, row: usize, keys: &mut [u64]) -> usize
     requires { ⌜ (q ≤ mostWidth) × RowLeast q (now keys) × (row ≡ leastFirst (drop (2 ^ q) (now keys)) (rowCount q)) ⌝ }
-    ensures { λ r. ⌜ Took q (now (keys .entry)) (now (keys .exit)) r ⌝ }
+    ensures { λ r. ⌜ (r ≡ leastFirst (now (keys .entry)) (2 ^ q)) × (now (keys .exit) ≡ keysAfter q (now (keys .entry))) ⌝ }
 {
     let n: usize = 1 << q;
     let columns: usize = 1 << (q / 2);

@@ -1,13 +1,21 @@
--- The test says of each child that it would be cut, or the count is of all of them, or the keys are the children's partial metrics.
-use Prim.Native.Nat.{_*_, _-_}
-use mathlib.Core.Path.{refl}
+-- The answer is the test's, and the keys are as before, or the children's are filled in.
+use Prim.Native.Nat.{ℕ, _*_, _-_}
+use mathlib.Core.Path.{_≡_, refl, sym, _∙_, ap}
 use native.Mathlib.Omega.{arith}
 use borrow.Author.Needs.{needs}
-use borrow.Author.Tests.{not-true}
+use borrow.Author.Tests.{not-true, not-false}
+use mathlib.Core.Bool.{true}
+use mathlib.Core.List.{List}
+use lib.ListN.{replicate}
+use Rattle.model.specs.Constellation.{Complex}
+use Rattle.constellation.specs.Points.{complexOf}
 use Rattle.metric.specs.Parts.{span}
 use Rattle.metric.specs.Rows.{Measured}
+use Rattle.metric.specs.Tables.{partsIn}
+use Rattle.siblings.specs.Rows.{keysIn}
+use Rattle.metric.proofs.Bridge.{measured-by}
 use Rattle.metric.proofs.Filled.{zeros-small}
-use Rattle.children.proofs.Kids.{filled-in}
+use Rattle.children.specs.Expand.{opensAt, mayPass, keysFor}
 use Rattle.children.proofs.Nodes.{room-for, partial-few, row-inside}
 use Rattle.children.proofs.expand.Statement.{statement}
 use Rattle.children.proofs.expand.Tie as tie
@@ -24,7 +32,51 @@ parts : (c : tie.After-fill-parts)
     → let s = start (left c) in
     Measured (s .args .sizes .streams) (s .args .sizes .width) (s .args .numbers .now) (s .args .node .level - 1) (s .args .node .bits)
     (c .fill-parts .last .1 .1 .1 .1 .1 .0)
-parts c = c .fill-parts .ensures (start (left c) .args .node .bits) (left c .remainder .ensures .0)
+parts c =
+    let r = left c in
+    let s = start r in
+    let e = r .remainder .ensures in
+    measured-by (s .pre .node .asked .vector) _ (row-inside (s .pre .node) (s .pre .inner)) (s .args .node .bits)
+    (complexOf (r .remainder .result .re) (r .remainder .result .im)) (e .0) (s .pre .tabled) (e .1) (e .2) (replicate (2 * span) 0) refl
+    (zeros-small (2 * span)) _ (c .fill-parts .ensures)
+
+-- The test's answer is that of what remains
+tested : (c : tie.After-opens)
+    → let s = start (c .before) in
+    c .opens .result
+    ≡ mayPass (s .args .sizes .streams) (s .args .sizes .width) (s .args .numbers .now) (s .args .tables .now) (s .args .node) (s .args .kept .label)
+    (s .args .kept .best) (s .args .limits .now)
+tested c =
+    let r = c .before in
+    let a = start r .args in
+    c .opens .ensures
+    ∙ ap (λ (z : Complex). opensAt (a .sizes .streams) (a .sizes .width) (a .numbers .now) (a .tables .now) (a .node) (a .kept .label) (a .kept .best)
+    (z .re) (z .im) (a .limits .now)) (r .remainder .ensures .0)
+
+-- One may pass
+some : (f : tie.After-fill-parts)
+    → let s = start (left f) in
+    true
+    ≡ mayPass (s .args .sizes .streams) (s .args .sizes .width) (s .args .numbers .now) (s .args .tables .now) (s .args .node) (s .args .kept .label)
+    (s .args .kept .best) (s .args .limits .now)
+some f = let e = f .before .before in sym (not-false _ (e .if1 .left)) ∙ tested (e .before)
+
+returns-2 : tie.Need-returns-2
+unfolding keysFor
+returns-2 c =
+    let k = c .before .before in
+    let f = k .before .before .before in
+    let a = start (left f) .args in
+    let old = a .keys .now in
+    record {
+      answer = some f;
+      keys =
+          k .fill .ensures
+          ∙ ap (λ (l : List ℕ). keysIn (a .sizes .width) (a .node .partial) l old)
+          (f .fill-parts .ensures
+          ∙ ap (λ (z : Complex). partsIn (a .sizes .width) (a .tables .now) (a .node .level - 1) (z .re) (z .im) (replicate (2 * span) 0))
+          (left f .remainder .ensures .0));
+    }
 
 pub expand-spec : {M : Type 1} → statement M
 expand-spec =
@@ -42,20 +94,10 @@ expand-spec =
       low-re = c .remainder .ensures .1;
       low-im = c .remainder .ensures .2;
     })
-    (λ c. c .before .opens .ensures (not-true _ (c .if1 .taken)))
+    (λ c. record { answer = sym (not-true _ (c .if1 .taken)) ∙ tested (c .before); keys = refl })
     (λ c κs. let r = c .before .before .before in let s = start r in
     (s .pre .node .asked .vector, s .pre .tabled, row-inside (s .pre .node) (s .pre .inner), r .remainder .ensures .1, r .remainder .ensures .2, refl, zeros-small (2 * span)))
-    (λ c κs. let f = c .before in let s = start (left f) in record {
-      node = s .pre .node;
-      limited = s .pre .limited;
-      lowest = s .pre .lowest;
-      measured = parts f;
-      tabled = s .pre .tabled;
-      pointed = s .pre .pointed;
-    })
-    (λ c. c .before .count-below .ensures (c .if2 .taken))
-    (λ c κs. let f = c .before .before .before .before .before in let s = start (left f) in
+    (λ c κs. let f = c .before .before in let s = start (left f) in
     (s .pre .node .asked .vector .bits, omega (arith, partial-few (s .pre .node)), parts f .size, parts f .small, room-for (s .args .node .level) (s .args .sizes .width) (s .pre .inner) _ (s .pre .room)))
     (λ c. search needs)
-    (λ c. let f = c .before .before .before .before .before .before .before .before in let a = start (left f) .args in
-    filled-in (a .sizes .streams) (a .sizes .width) (a .numbers .now) (a .node) (parts f) (c .before .before .fill .ensures)))
+    returns-2)

@@ -1,19 +1,24 @@
--- Where no child can pass, by the distances or by the parts, the test says so of each.
-use Prim.Native.Nat.{ℕ, _+_, _-_, _*_, _^_, _<_}
-use mathlib.Core.Path.{refl}
-use mathlib.Core.Bool.{true≢false}
+-- The answer is put together from the two tests.
+use Prim.Native.Nat.{ℕ, _+_, _-_, _*_, _<_}
+use mathlib.Core.Path.{_≡_, refl, sym, _∙_, ap, ap₂}
+use mathlib.Core.Bool.{Bool, true, not, _&&_, _||_}
 use mathlib.Core.List.{List}
 use native.Mathlib.Omega.{arith}
 use borrow.Author.Needs.{needs}
-use borrow.Author.Tests.{not-true}
+use borrow.Author.Tests.{not-true, not-false, eq-eqb, ne-eqb}
+use mathlib.Core.Logic.{⊎-elim}
+use lib.Dec.{eqb}
 use lib.ListN.{take, drop}
 use Rattle.metric.specs.Parts.{span}
-use Rattle.metric.specs.Tables.Axis.{real}
-use Rattle.cutoff.specs.Cut.{OpensAsked, Beyond}
-use Rattle.cutoff.proofs.Parts.{parts-asked, parts-cut}
+use Rattle.metric.specs.Tables.{axisPlace, tablePart}
+use Rattle.metric.specs.Tables.Axis.{real, imaginary}
+use Rattle.cutoff.specs.Cut.{OpensAsked}
+use Rattle.cutoff.specs.Axes.{pricedBy}
+use Rattle.cutoff.specs.Answers.{opensBy, opensByParts}
+use Rattle.cutoff.proofs.Parts.{parts-asked}
 use Rattle.reach.specs.Reach.{entryPlace}
-use Rattle.children.specs.Expand.{kidOf, Shut}
-use Rattle.children.proofs.Kids.{entries-are, entries-many, entries-wide, all-cut}
+use Rattle.children.specs.Expand.{opensAt}
+use Rattle.children.proofs.Kids.{entries-are, entries-many, entries-wide, opens-at}
 use Rattle.children.proofs.Nodes.{partial-few, row-inside, chosen-few}
 use Rattle.children.proofs.opens.Statement.{statement}
 use Rattle.children.proofs.opens.Tie as tie
@@ -55,30 +60,65 @@ module _ (o : tie.After-own-symbol) where
         symbol = o .own-symbol .ensures .1;
       }
 
-  -- Children that would be cut by the lent entries would be cut
-  shut : let a = start .args in
-      ((s : ℕ) → s < 2 ^ q → Beyond q (o .before .base-of .result) lent (o .own-symbol .result) (kidOf m q (a .numbers .now) (a .node) s) s)
-      → Shut m q (a .numbers .now) (a .node) (a .kept .label) (a .kept .best) (a .limits .now)
-  shut =
+  -- The two tests, as they are asked
+  abbrev first : Bool
+  first =
       let a = start .args in
-      let w = start .pre .node in
-      all-cut m q (a .numbers .now) (a .node) (a .kept .label) (a .kept .best) (a .limits .now) _ (o .before .base-of .ensures) _
-      (entries-are _ _ _ (start .pre .limited) (w .asked .vector .streams) _ inside _ refl) _ (o .own-symbol .ensures .0)
+      opensBy m q row (a .left .re) (a .left .im) (a .node .partial) (o .before .base-of .result) (a .numbers .now) lent (o .own-symbol .result)
+
+  abbrev second : Bool
+  second =
+      let a = start .args in
+      opensByParts q (a .node .partial) (o .before .base-of .result) (tablePart (a .tables .now) (axisPlace row real) (a .left .re))
+      (tablePart (a .tables .now) (axisPlace row imaginary) (a .left .im)) lent (o .own-symbol .result)
+
+  abbrev priced : Bool
+  priced = pricedBy q (start .args .tables .now) row
+
+  -- make the answer
+  whole : let a = start .args in
+      (first && (not (eqb row 0 && priced) || second))
+      ≡ opensAt m q (a .numbers .now) (a .tables .now) (a .node) (a .kept .label) (a .kept .best) (a .left .re) (a .left .im) (a .limits .now)
+  whole =
+      let a = start .args in
+      opens-at m q (a .numbers .now) (a .tables .now) (a .node) (a .kept .label) (a .kept .best) (a .left .re) (a .left .im) (a .limits .now) _ _ _
+      (o .before .base-of .ensures) (entries-are _ _ _ (start .pre .limited) (start .pre .node .asked .vector .streams) _ inside _ refl)
+      (o .own-symbol .ensures .0)
 
 -- From where the parts are asked back there
 abbrev known : tie.After-opens-by-parts-arg → tie.After-own-symbol
 known c = c .before .before .before .before .before .before .before
 
 returns : tie.Need-returns
-returns c e =
+returns c =
     let o = c .before .before .before in
-    shut o (c .before .opens .ensures (not-true _ (c .if1 .taken)) (start o .args .node .bits) (start o .pre .left))
+    sym (ap (λ (t : Bool). t && (not (eqb (row o) 0 && priced o) || second o)) (sym (c .before .opens .ensures) ∙ not-true _ (c .if1 .taken))) ∙ whole o
+
+-- The distances leave it open
+is-open : (e : tie.Else1) → first (e .before .before .before) ≡ true
+is-open e = sym (e .before .opens .ensures) ∙ not-false _ (e .if1 .left)
+
+-- The parts are not asked, or they are
+unasked : (c : tie.Joined2) → let o = c .before .before .before .before in not (eqb (row o) 0 && priced o) ≡ true
+unasked c =
+    let o = c .before .before .before .before in
+    ⊎-elim (λ t. ap (λ (b : Bool). not (b && priced o)) (ne-eqb (row o) 0 (t .taken)))
+    (λ t. ap₂ (λ (a b : Bool). not (a && b)) (eq-eqb (row o) 0 (t .0 .left)) (sym (t .1 .ensures) ∙ not-true _ (t .2 .taken))) (c .if2 .came)
+
+returns-2 : tie.Need-returns-2
+returns-2 c =
+    let e = c .before in
+    let o = e .before .before .before in
+    sym (ap₂ (λ (a b : Bool). a && (b || second o)) (is-open e) (unasked c)) ∙ whole o
 
 returns-3 : tie.Need-returns-3
-returns-3 c e =
-    let o = known (c .before) in
-    let s = start o in
-    shut o (parts-cut (asked o) (s .pre .tabled) _ (c .opens-by-parts .ensures e) (s .args .node .bits) (s .pre .left))
+returns-3 c =
+    let t = c .before .before in
+    let p = t .before in
+    let e = p .before .before in
+    let o = e .before .before .before in
+    let asks = ap₂ (λ (a b : Bool). not (a && b)) (eq-eqb (row o) 0 (p .before .if2 .left)) (sym (p .priced .ensures) ∙ not-false _ (t .if3 .left)) in
+    c .opens-by-parts .ensures ∙ sym (ap₂ (λ (a b : Bool). a && (b || second o)) (is-open e) asks) ∙ whole o
 
 pub opens-spec : {M : Type 1} → statement M
 opens-spec =
@@ -97,7 +137,7 @@ opens-spec =
     (λ c κs. asked (c .before))
     returns
     (λ c κs. search needs)
-    (λ c e. absurd (true≢false e))
+    returns-2
     (λ c. search needs)
     (λ c. search needs)
     (λ c. search needs)

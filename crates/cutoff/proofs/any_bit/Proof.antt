@@ -1,12 +1,12 @@
--- The invariant: what remains, folded once for each bit so far, is no further away from any label, and no label is below the limit of such a
--- bit in which it differs from own. What remains is its bits inside the loop.
+-- The invariant: the answer is that of the bits from i on, where what remains was folded once for each bit so far. What remains is its bits
+-- inside the loop.
 use Prim.Native.Nat.{ℕ, suc, _+_, _-_, _*_, _%_, _^_, _≤_, _<_}
 use mathlib.Core.Path.{_≡_, sym, _∙_, ap, ap₂, subst}
-use mathlib.Core.Bool.{Bool, cond, Bool·beq}
+use mathlib.Core.Bool.{Bool, cond, _||_, Bool·beq}
 use native.Mathlib.Nat.{mul-le-mul}
 use native.Mathlib.Omega.{arith}
+use borrow.Author.Tests.{lt-ltb, le-ltb}
 use lib.IntN.{ℤ, pos, natAbs, _-ℤ_}
-use lib.ListN.{getD}
 use lib.Pow.{pow-mono, shl-exact}
 use lib.Signed.{ltZ}
 use mir.Syntax.{w64}
@@ -14,19 +14,18 @@ use mir.Val.{SFits, toZ, ofZ}
 use mir.Facts.{toZ-ofZ, toZ-pos}
 use Rattle.integers.proofs.Fits.{sfits-abs}
 use Rattle.model.specs.Block.{mostEntry}
-use Rattle.metric.specs.Parts.{span, axisDistance}
+use Rattle.metric.specs.Parts.{span}
 use Rattle.metric.proofs.Folds.{pos-apart}
 use Rattle.metric.proofs.Shifts.{one-shifted}
-use Rattle.cutoff.specs.Axes.{BitAsked}
-use Rattle.cutoff.proofs.Runs.{one-more}
-use Rattle.cutoff.proofs.Bits.{NoFurther, BitHeld, none-folded, fold-turn, bit-turn, bits-over}
+use Rattle.cutoff.specs.Answers.{reachedBy, bitsOpen, anyBit}
+use Rattle.cutoff.proofs.Answers.{bit-open, bit-past}
 use Rattle.cutoff.proofs.any_bit.Statement.{statement}
 use Rattle.cutoff.proofs.any_bit.Tie as tie
 
 abbrev Inv-loop : tie.InvT-loop
 Inv-loop left diagonal w other low entries from own x₀ i₀ x i =
-    (natAbs (toZ w64 x) < 2 ^ 30) × (getD entries from 0 ≤ low) × NoFurther (toZ w64 left) diagonal w (toZ w64 x) (w - i)
-    × ((j : ℕ) → j < i → BitHeld entries from w (axisDistance (toZ w64 left) (pos diagonal) w) other own j)
+    (natAbs (toZ w64 x) < 2 ^ 30)
+    × (anyBit (toZ w64 left) diagonal w other low entries from own ≡ bitsOpen diagonal w other low entries from own (w - i) (toZ w64 x))
 
 abbrev μ-loop : tie.MeasureT-loop
 μ-loop left diagonal w other low entries from own x₀ i₀ x i = w - i
@@ -105,73 +104,77 @@ module _ (c : tie.After-magnitude Inv-loop μ-loop) where
   folded : toZ w64 (ofZ w64 next) ≡ pos (begin .args .diagonal * 2 ^ (begin .args .w - suc (turn .before .loop .i))) -ℤ pos (natAbs x)
   folded = toZ-ofZ next-fits ∙ next-is ∙ ap₂ (λ (a b : ℕ). pos a -ℤ pos b) middle-is (c .magnitude .ensures)
 
-  -- What holds of all that remained at the start
+  -- All that remained at the start
   abbrev left : ℤ
   left = toZ w64 (ofZ w64 (begin .args .left))
 
-  asked : BitAsked left (begin .args .diagonal) (begin .args .w) (begin .args .other) (begin .args .low) (begin .args .entries .now)
-      (begin .args .from) (begin .args .own)
-  asked = let f = begin .fits .left in simp toZ-ofZ (begin .pre)
+  -- The answer is that of the bits from this one on
+  was : let a = begin .args in
+      anyBit left (a .diagonal) (a .w) (a .other) (a .low) (a .entries .now) (a .from) (a .own)
+      ≡ bitsOpen (a .diagonal) (a .w) (a .other) (a .low) (a .entries .now) (a .from) (a .own) (a .w - turn .before .loop .i) x
+  was = turn .before .loop .inv .1
 
-  near : NoFurther left (begin .args .diagonal) (begin .args .w) x (suc (begin .args .w - suc (turn .before .loop .i)))
-  near =
-      let e : begin .args .w - turn .before .loop .i ≡ suc (begin .args .w - suc (turn .before .loop .i)) = omega (arith, few turn) in
-      subst (NoFurther left (begin .args .diagonal) (begin .args .w) x) e (turn .before .loop .inv .2)
+-- What the nearest label with the opposite bit comes to, and the place of the bit's limit
+module _ (l : tie.After-least-opposite Inv-loop μ-loop) where
+  abbrev m : tie.After-magnitude Inv-loop μ-loop
+  m = l .before
 
-  nearer : NoFurther left (begin .args .diagonal) (begin .args .w) (toZ w64 (ofZ w64 next)) (begin .args .w - (turn .before .loop .i + 1))
-  nearer =
-      let k = begin .args .w - suc (turn .before .loop .i) in
-      let e : k ≡ begin .args .w - (turn .before .loop .i + 1) = omega arith in
-      rw (folded, ← e) (fold-turn left (begin .args .diagonal) (begin .args .w) k x near)
+  reached-is : let a = begin m .args in
+      l .least-opposite .result ≡ reachedBy (a .diagonal) (a .w) (a .other) (a .low) (a .own) (turn m .before .loop .i) (x m)
+  reached-is =
+      let a = begin m .args in
+      l .least-opposite .ensures
+      ∙ ap₂ (λ (b : Bool) (n : ℕ). cond (Bool·beq (ltZ (x m) (pos 0)) b) (a .low) (a .other + (n + a .diagonal) * (n + a .diagonal)))
+      (m .before .bit-at .ensures) (m .magnitude .ensures)
+
+  place-is : let a = begin m .args in
+      let i = turn m .before .loop .i in
+      a .from + 1 * 2 ^ (a .w - 1 - i) % 2 ^ 64 ≡ a .from + 2 ^ (a .w - suc i)
+  place-is =
+      let a = begin m .args in
+      let i = turn m .before .loop .i in
+      let e : a .w - 1 - i ≡ a .w - suc i = omega arith in
+      ap (_+_ (a .from)) (shifted (turn m) ∙ ap (_^_ 2) e)
+
+-- The bits behind the entry of no bit
+abbrev rest : tie.Start Inv-loop μ-loop → Bool
+rest s =
+    let a = s .args in
+    bitsOpen (a .diagonal) (a .w) (a .other) (a .low) (a .entries .now) (a .from) (a .own) (a .w) (a .left)
 
 loop-holds : tie.Need-loop-holds Inv-loop μ-loop
 loop-holds c =
     let s = c .before .before .before in
     let f = s .fits .left in
-    simp toZ-ofZ (s .pre .remains, c .if1 .left, none-folded (s .args .left) (s .args .diagonal) (s .args .w), λ j h. absurd (omega arith))
+    let e : s .args .w - 0 ≡ s .args .w = omega arith in
+    simp toZ-ofZ (s .pre .remains, rw e (ap (λ (t : Bool). t || rest s) (le-ltb _ _ (c .if1 .left))))
 
 returns : tie.Need-returns Inv-loop μ-loop
-returns c e = let z : _≡_ {A = ℕ} 0 1 = cc in absurd (omega arith)
+returns c = sym (ap (λ (t : Bool). t || rest (c .before .before .before)) (lt-ltb _ _ (c .if1 .taken)))
 
 returns-2 : tie.Need-returns-2 Inv-loop μ-loop
-returns-2 c e = let z : _≡_ {A = ℕ} 0 1 = cc in absurd (omega arith)
-
--- The bit's limit was not above what the nearest label with the opposite bit comes to
-held : (c : tie.Else2 Inv-loop μ-loop)
-    → let m = c .before .before .before in
-    let a = begin m .args in
-    BitHeld (a .entries .now) (a .from) (a .w) (axisDistance (left m) (pos (a .diagonal)) (a .w)) (a .other) (a .own) (turn m .before .loop .i)
-held c =
+returns-2 c =
     let l = c .before .before in
     let m = l .before in
-    let a = begin m .args in
-    let i = turn m .before .loop .i in
-    let e : a .w - 1 - i ≡ a .w - suc i = omega arith in
-    let p : a .from + 1 * 2 ^ (a .w - 1 - i) % 2 ^ 64 ≡ a .from + 2 ^ (a .w - suc i) =
-    ap (_+_ (a .from)) (shifted (turn m) ∙ ap (_^_ 2) e) in
-    let r = l .least-opposite .ensures
-    ∙ ap₂ (λ (b : Bool) (n : ℕ). cond (Bool·beq (ltZ (x m) (pos 0)) b) (a .low) (a .other + (n + a .diagonal) * (n + a .diagonal)))
-    (m .before .bit-at .ensures) (m .magnitude .ensures) in
-    bit-turn (asked m) i (x m) (near m) _ _ p r (c .if2 .left)
+    let f = begin m .fits .left in
+    bit-open _ _ _ _ _ _ _ _ _ (x m) (simp toZ-ofZ at (was m)) (few (turn m) .0) _ _ (reached-is l) (place-is l) (c .if2 .taken)
 
 loop-again : tie.Need-loop-again Inv-loop μ-loop
 loop-again c =
-    let m = c .before .before .before in
-    let t = turn m in
-    let a = begin m .args in (
+    let l = c .before .before in
+    let m = l .before in (
       subst (λ (z : ℤ). natAbs z < 2 ^ 30) (sym (toZ-ofZ (next-fits m))) (next-small m),
-      t .before .loop .inv .1,
-      nearer m,
-      one-more (BitHeld (a .entries .now) (a .from) (a .w) (axisDistance (left m) (pos (a .diagonal)) (a .w)) (a .other) (a .own))
-          (t .before .loop .i) (t .before .loop .inv .3) (held c),
+      rw (folded m) (bit-past _ _ _ _ _ _ _ _ _ (x m) (was m) (few (turn m) .0) _ _ (reached-is l) (place-is l) (c .if2 .left)),
     )
 
 returns-3 : tie.Need-returns-3 Inv-loop μ-loop
-returns-3 c e =
+unfolding bitsOpen
+returns-3 c =
     let l = c .before in
     let s = l .before .before .before .before in
     let f = s .fits .left in
-    bits-over (s .pre) (l .loop .inv .1) (λ j h. simp toZ-ofZ at (l .loop .inv .3 j (omega arith)))
+    let e : s .args .w - l .loop .i ≡ 0 = omega arith in
+    sym (rw e at (simp toZ-ofZ at (l .loop .inv .1)))
 
 pub any-bit-spec : {M : Type 1} → statement M
 any-bit-spec =

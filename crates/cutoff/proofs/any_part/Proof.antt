@@ -1,22 +1,24 @@
--- The invariant: none of the first g parts is below its entry. What remains is its bits inside the loop.
-use Prim.Native.Nat.{ℕ, _+_, _-_, _*_, _^_, _≤_, _<_}
-use mathlib.Core.Path.{_≡_}
+-- The invariant: whether a part is below its entry is whether one of the parts from g on is. What remains is its bits inside the loop.
+use Prim.Native.Nat.{_+_, _-_, _*_, _^_, _<_}
+use mathlib.Core.Path.{_≡_, refl}
 use native.Mathlib.Omega.{arith}
 use lib.Bits.{bitXor}
-use lib.ListN.{getD}
 use mir.Syntax.{w64}
-use mir.Val.{toZ, ofZ}
+use mir.Val.{toZ}
 use mir.Facts.{toZ-ofZ}
 use Rattle.metric.specs.Parts.{span}
 use Rattle.metric.specs.Tables.{tablePart}
-use Rattle.cutoff.specs.Axes.{NoneOver}
-use Rattle.cutoff.proofs.Runs.{one-more, labels-few, label-asked, entry-place}
+use Rattle.cutoff.specs.Answers.{anyPart}
+use Rattle.cutoff.proofs.Runs.{labels-few, label-asked, entry-place}
+use Rattle.cutoff.proofs.Answers.{part-open, part-past, part-end}
 use Rattle.cutoff.proofs.any_part.Statement.{statement}
 use Rattle.cutoff.proofs.any_part.Tie as tie
 
 abbrev Inv-loop : tie.InvT-loop
 Inv-loop tables at left w other entries from own n g₀ g =
-    (n ≡ 2 ^ w) × NoneOver entries from g (tablePart tables at (toZ w64 left)) other own
+    (n ≡ 2 ^ w)
+    × (anyPart entries from (tablePart tables at (toZ w64 left)) other own 0 n
+    ≡ anyPart entries from (tablePart tables at (toZ w64 left)) other own g (n - g))
 
 abbrev μ-loop : tie.MeasureT-loop
 μ-loop tables at left w other entries from own n g₀ g = n - g
@@ -52,25 +54,34 @@ entry c =
     let few = labels-few (s .args .w) (s .pre .parts .axis .bits) in
     entry-place (s .args .from) (i .before .loop .g) (s .args .own) (s .pre .place) (omega arith) (omega (arith, s .pre .label))
 
+loop-holds : tie.Need-loop-holds Inv-loop μ-loop
+loop-holds c =
+    let s = c .before in
+    let few = labels-few (s .args .w) (s .pre .parts .axis .bits) .0 in
+    let e : 2 ^ s .args .w - 0 ≡ 2 ^ s .args .w = omega arith in
+    (few, rw (few, e) refl)
+
 returns : tie.Need-returns Inv-loop μ-loop
-returns c e = let z : _≡_ {A = ℕ} 0 1 = cc in absurd (omega arith)
+returns c =
+    let p = c .before .before in
+    let i = p .before in
+    let f = start i .fits .left in
+    let was = i .before .loop .inv in
+    rw (← was .0) (part-open _ _ _ _ _ (i .before .loop .g) _ (simp toZ-ofZ at (was .1)) (omega arith) _ (part-is p) (c .if1 .taken))
 
 loop-again : tie.Need-loop-again Inv-loop μ-loop
 loop-again c =
     let p = c .before .before in
     let i = p .before in
-    let a = start i .args in
     let f = start i .fits .left in
-    let part = tablePart (a .tables .now) (a .at) (toZ w64 (ofZ w64 (a .left))) in (
-      i .before .loop .inv .0,
-      one-more (λ (g : ℕ). getD (a .entries .now) (a .from + bitXor g (a .own)) 0 ≤ a .other + part g) (i .before .loop .g)
-          (i .before .loop .inv .1) (simp toZ-ofZ (rw (part-is p) at (c .if1 .left))),
-    )
+    let was = i .before .loop .inv in
+    (was .0, simp toZ-ofZ (part-past _ _ _ _ _ (i .before .loop .g) _ (simp toZ-ofZ at (was .1)) (omega arith) _ (part-is p) (c .if1 .left)))
 
 returns-2 : tie.Need-returns-2 Inv-loop μ-loop
-returns-2 c e =
+returns-2 c =
     let f = c .before .before .before .fits .left in
-    λ g h. simp toZ-ofZ at (c .before .loop .inv .1 g (omega arith))
+    let was = c .before .loop .inv in
+    rw (← was .0) (part-end _ _ _ _ _ (c .before .loop .g) _ (simp toZ-ofZ at (was .1)) (omega arith))
 
 pub any-part-spec : {M : Type 1} → statement M
 any-part-spec =
@@ -79,7 +90,7 @@ any-part-spec =
     Inv-loop
     μ-loop
     (λ c. omega (arith, c .before .pre .parts .axis .bits))
-    (λ c. (labels-few (c .before .args .w) (c .before .pre .parts .axis .bits) .0, λ g h. absurd (omega arith)))
+    loop-holds
     requires
     sum-fits
     (λ c. omega (arith, entry c))

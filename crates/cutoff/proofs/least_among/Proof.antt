@@ -1,5 +1,5 @@
--- The invariant: none of the first g parts is below `least`. What remains is its bits inside the loop.
-use Prim.Native.Nat.{_-_, _^_}
+-- The invariant: `least` is the least of the first g parts. What remains is its bits inside the loop.
+use Prim.Native.Nat.{_-_, _^_, _≤_}
 use mathlib.Core.Path.{_≡_}
 use mathlib.Core.Logic.{⊎-elim}
 use native.Mathlib.Omega.{arith}
@@ -7,13 +7,14 @@ use mir.Syntax.{w64}
 use mir.Val.{toZ}
 use mir.Facts.{toZ-ofZ}
 use Rattle.metric.specs.Tables.{tablePart}
-use Rattle.cutoff.specs.Axes.{LeastOf}
-use Rattle.cutoff.proofs.Runs.{least-more, labels-few, label-asked}
+use Rattle.cutoff.specs.Answers.{leastPart}
+use Rattle.cutoff.proofs.Runs.{labels-few, label-asked}
+use Rattle.cutoff.proofs.Answers.{least-next}
 use Rattle.cutoff.proofs.least_among.Statement.{statement}
 use Rattle.cutoff.proofs.least_among.Tie as tie
 
 abbrev Inv-loop : tie.InvT-loop
-Inv-loop tables at left w n least₀ g₀ least g = (n ≡ 2 ^ w) × LeastOf (tablePart tables at (toZ w64 left)) g least
+Inv-loop tables at left w n least₀ g₀ least g = (n ≡ 2 ^ w) × (1 ≤ g) × (g ≤ n) × (least ≡ leastPart (tablePart tables at (toZ w64 left)) (g - 1))
 
 abbrev μ-loop : tie.MeasureT-loop
 μ-loop tables at left w n least₀ g₀ least g = n - g
@@ -28,17 +29,11 @@ next-asked : tie.Need-part-at-requires-2 Inv-loop μ-loop
 next-asked c κs = let s = begin c in let f = s .fits .left in simp toZ-ofZ (label-asked (s .pre .axis) (c .before .loop .g) (omega arith))
 
 loop-holds : tie.Need-loop-holds Inv-loop μ-loop
+unfolding leastPart
 loop-holds c =
     let s = c .before in
-    let f = s .fits .left in
     let few = labels-few (s .args .w) (s .pre .axis .bits) in
-    let is = c .part-at .ensures in (
-      few .0,
-      record {
-        low = omega (arith, simp toZ-ofZ at is, s .pre .small 0 (few .1));
-        least-le = λ g h. let e : g ≡ 0 = omega arith in rw e (omega (arith, is));
-      },
-    )
+    (few .0, omega arith, omega (arith, few), c .part-at .ensures)
 
 loop-again : tie.Need-loop-again Inv-loop μ-loop
 loop-again c =
@@ -46,17 +41,21 @@ loop-again c =
     let was = p .before .before .loop .inv in
     let is = p .part-at2 .ensures in (
       was .0,
-      ⊎-elim
-          (λ t. least-more (was .1) (c .if1 .least) (omega (arith, t .0 .taken, t .1)) (omega (arith, t .0 .taken, t .1, is)))
-          (λ e. least-more (was .1) (c .if1 .least) (omega (arith, e .0 .left, e .1)) (omega (arith, e .0 .left, e .1, is)))
-          (c .if1 .came),
+      omega arith,
+      omega arith,
+      least-next _ (p .before .before .loop .g) (was .1) _ _ (was .3)
+          (⊎-elim
+          (λ t. omega (arith, t .0 .taken, t .1, is))
+          (λ e. omega (arith, e .0 .left, e .1, is))
+          (c .if1 .came)),
     )
 
 returns : tie.Need-returns Inv-loop μ-loop
 returns c =
     let f = c .before .before .before .fits .left in
-    let was = c .before .loop .inv .1 in
-    record { low = was .low; least-le = λ g h. simp toZ-ofZ at (was .least-le g (omega arith)) }
+    let was = c .before .loop .inv in
+    let e : c .before .loop .g - 1 ≡ 2 ^ c .before .before .before .args .w - 1 = omega arith in
+    rw (← e) (simp toZ-ofZ at (was .3))
 
 pub least-among-spec : {M : Type 1} → statement M
 least-among-spec =

@@ -1,10 +1,11 @@
--- The nearest distances bound every child's partial metric from below, and a label's squared distance with that of the other axis.
+-- The answer is put together from the nearest distances of both axes and what is asked of each.
 use borrow.Author.Needs.{needs, sfits-of}
 use Prim.Native.Nat.{ℕ, _+_, _-_, _*_, _/_, _%_, _^_, _≤_, _<_}
 use mathlib.Core.Path.{_≡_, sym, _∙_, ap, subst}
+use mathlib.Core.Bool.{Bool, false, _&&_}
 use mathlib.Core.Logic.{⊎-elim}
 use native.Mathlib.Omega.{arith}
-use lib.Dec.{T}
+use lib.Dec.{T, ltb}
 use lib.IntN.{ℤ, pos, natAbs}
 use lib.ListN.{getD}
 use lib.Signed.{nonNeg}
@@ -14,14 +15,15 @@ use mir.Facts.{toZ-ofZ, fits-natAbs}
 use Rattle.integers.proofs.Fits.{sfits-abs}
 use Rattle.model.specs.Block.{mostEntry}
 use Rattle.model.proofs.Numbers.{first-half}
-use Rattle.metric.specs.Parts.{span, axisDistance, nearestOf}
+use Rattle.metric.specs.Parts.{span, nearestOf}
 use Rattle.metric.specs.Rows.{rowStart}
 use Rattle.metric.specs.Tables.{Axis, axisBits}
 use Rattle.metric.specs.Tables.Axis.{real, imaginary}
 use Rattle.metric.proofs.Rows.{row-end, square-few, diagonal-within}
-use Rattle.cutoff.specs.Axes.{NoneOver}
+use Rattle.cutoff.specs.Answers.{anyBit, opened, opensBy}
 use Rattle.cutoff.proofs.Halves.{imaginary-lt, labels, masked}
-use Rattle.cutoff.proofs.Near.{square-small, bit-asked, none-wide, all-beyond}
+use Rattle.cutoff.proofs.Near.{square-small, bit-asked}
+use Rattle.cutoff.proofs.Answers.{open-base, open-first, first-asked, first-unasked, second-asked, second-unasked, opens-by}
 use Rattle.cutoff.proofs.opens.Statement.{statement}
 use Rattle.cutoff.proofs.opens.Tie as tie
 
@@ -149,53 +151,79 @@ imaginary-asked c κs =
     (bit-asked (s .pre) (diagonal n) (stands n) imaginary (s .args .left .im) _ (near-im n) _ _ (im-is n) (omega arith)
     (imaginary-lt q (s .args .own)) _ (s .pre .low-im) (omega (arith, small n)) (omega arith)))
 
--- Behind the real axis no real label is below its entry: the limits of its bits were held against the distances, or the widest entry is not
--- above `low`
-over-re : (c : tie.Joined2)
-    → let n = c .before .before .before in
-    let a = start n .args in
-    let q = a .shape .width in
-    NoneOver (a .entries .now) 0 (2 ^ (q - q / 2)) (axisDistance (a .left .re) (pos (diagonal n)) (q - q / 2))
-    (a .partial + near-im n * near-im n) (a .own / 2 ^ (q / 2))
-over-re c =
-    let n = c .before .before .before in
-    let s = start n in
-    let q = s .args .shape .width in
-    let e = diagonal-fits (entry n) in
-    let f = re-fits s in
-    ⊎-elim (λ t. simp toZ-ofZ at (t .2 .ensures (t .3 .left)))
-    (λ e.
-    none-wide (s .pre) (diagonal n) (stands n) real (s .args .left .re) _ (near-re n) _ _ (re-is n) (omega arith)
-    (first-half q (s .args .own) (s .pre .symbol)) _ (omega (arith, count n real)) (e .left)) (c .if2 .came)
+-- The answers of both axes, and the places of their widest entries
+module _ (n : tie.After-nearest2) where
+  abbrev q : ℕ
+  q = start n .args .shape .width
+
+  abbrev low : ℕ
+  low = start n .args .partial + near-re n * near-re n + near-im n * near-im n
+
+  abbrev any-re : Bool
+  any-re =
+      anyBit (start n .args .left .re) (diagonal n) (q - q / 2) (start n .args .partial + near-im n * near-im n) low (start n .args .entries .now) 0
+      (start n .args .own / 2 ^ (q / 2))
+
+  abbrev any-im : Bool
+  any-im =
+      anyBit (start n .args .left .im) (diagonal n) (q / 2) (start n .args .partial + near-re n * near-re n) low (start n .args .entries .now) span
+      (start n .args .own % 2 ^ (q / 2))
+
+  abbrev widest : ℕ
+  widest = getD (start n .args .entries .now) (1 * 2 ^ (q - q / 2) % 2 ^ 64 - 1) 0
+
+  abbrev wider : ℕ
+  wider = getD (start n .args .entries .now) (span + (1 * 2 ^ (q / 2) % 2 ^ 64 - 1)) 0
+
+  whole : let s = start n .args in
+      opened (s .base) low widest any-re wider any-im
+      ≡ opensBy (s .shape .streams) q (s .row) (s .left .re) (s .left .im) (s .partial) (s .base) (s .numbers .now) (s .entries .now) (s .own)
+  whole =
+      let s = start n .args in
+      opens-by (s .shape .streams) q (s .row) (s .left .re) (s .left .im) (s .partial) (s .base) (s .numbers .now) (s .entries .now) (s .own)
+      (diagonal n) (near-re n) (near-im n) _ _ (stands n) (re-is n) (im-is n) (omega (arith, count n real)) (omega (arith, count n imaginary))
 
 returns : tie.Need-returns
-returns c e = let z : _≡_ {A = ℕ} 0 1 = cc in absurd (omega arith)
+returns c = let n = c .before in open-base _ (low n) (widest n) (any-re n) (wider n) (any-im n) (c .if1 .taken) ∙ whole n
 
 returns-2 : tie.Need-returns-2
-returns-2 c e = let z : _≡_ {A = ℕ} 0 1 = cc in absurd (omega arith)
+returns-2 c =
+    let k = c .before in
+    let t = k .before .before in
+    let l = t .before .before in
+    let n = l .before in
+    let d = diagonal-fits (entry n) in
+    let f = re-fits (start n) in
+    open-first _ (low n) (widest n) (any-re n) (wider n) (any-im n) (l .if1 .left) (t .if2 .taken)
+    (sym (simp toZ-ofZ at (k .any-bit-of .ensures)) ∙ c .if3 .taken) ∙ whole n
+
+-- Behind the real axis it opens nothing: the limits of its bits were held against the distances, or the widest entry is not above `low`
+first-shut : (c : tie.Joined2) → let n = c .before .before .before in (ltb (low n) (widest n) && any-re n) ≡ false
+first-shut c =
+    let n = c .before .before .before in
+    let s = start n in
+    let d = diagonal-fits (entry n) in
+    let f = re-fits s in
+    ⊎-elim (λ t. first-asked (s .args .base) _ _ _ (wider n) (any-im n) (t .0 .taken) (sym (simp toZ-ofZ at (t .2 .ensures)) ∙ t .3 .left))
+    (λ e. first-unasked (s .args .base) _ _ _ (wider n) (any-im n) (e .left)) (c .if2 .came)
 
 returns-3 : tie.Need-returns-3
-returns-3 c e =
+returns-3 c =
     let j = c .before .before in
     let l = j .before .before in
     let n = l .before in
-    let s = start n in
-    let q = s .args .shape .width in
-    all-beyond (s .pre) (diagonal n) (stands n) (near-re n) (near-im n) (s .args .base) (re-is n) (im-is n) (l .if1 .left) (over-re j)
-    (none-wide (s .pre) (diagonal n) (stands n) imaginary (s .args .left .im) _ (near-im n) _ _ (im-is n) (omega arith)
-    (imaginary-lt q (s .args .own)) _ (omega (arith, count n imaginary)) (c .if4 .taken))
+    second-unasked _ (low n) (widest n) (any-re n) (wider n) (any-im n) (l .if1 .left) (first-shut j) (c .if4 .taken) ∙ whole n
 
 returns-4 : tie.Need-returns-4
-returns-4 c e =
+returns-4 c =
     let j = c .before .before .before .before in
     let l = j .before .before in
     let n = l .before in
     let s = start n in
-    let q = s .args .shape .width in
     let d = diagonal-fits (entry n) in
     let f = im-fits s in
-    all-beyond (s .pre) (diagonal n) (stands n) (near-re n) (near-im n) (s .args .base) (re-is n) (im-is n) (l .if1 .left) (over-re j)
-    (simp (toZ-ofZ, masked q (s .args .own) (s .pre .vector .bits)) at (c .any-bit-of2 .ensures e))
+    simp (toZ-ofZ, masked (q n) (s .args .own) (s .pre .vector .bits)) at (c .any-bit-of2 .ensures)
+    ∙ second-asked _ (low n) (widest n) (any-re n) (wider n) (any-im n) (l .if1 .left) (first-shut j) (omega (arith, c .before .before .if4 .left)) ∙ whole n
 
 pub opens-spec : {M : Type 1} → statement M
 opens-spec =

@@ -1,21 +1,24 @@
--- The least part of either axis bounds every child's partial metric from below, and an axis's parts with that of the other axis.
+-- The answer is put together from the least parts of both axes and what is asked of each.
 use borrow.Author.Needs.{needs}
 use Prim.Native.Nat.{ℕ, _+_, _-_, _*_, _/_, _%_, _^_, _≤_, _<_}
-use mathlib.Core.Path.{_≡_}
-use mathlib.Core.Bool.{true, false}
+use mathlib.Core.Path.{_≡_, sym, _∙_}
+use mathlib.Core.Bool.{Bool, false, _&&_}
 use mathlib.Core.Logic.{⊎-elim}
 use native.Mathlib.Omega.{arith}
+use lib.Dec.{ltb}
+use lib.ListN.{getD}
+use lib.Pow.{pow-pos}
 use mir.Syntax.{w64}
 use mir.Val.{SFits}
 use mir.Facts.{toZ-ofZ}
 use Rattle.integers.proofs.Fits.{sfits-abs}
 use Rattle.model.proofs.Numbers.{first-half}
-use Rattle.metric.specs.Parts.{span, childMetric}
+use Rattle.metric.specs.Parts.{span}
 use Rattle.metric.specs.Tables.{Axis, axisPlace, axisBits, tablePart}
 use Rattle.metric.specs.Tables.Axis.{real, imaginary}
-use Rattle.cutoff.specs.Cut.{Beyond}
-use Rattle.cutoff.specs.Axes.{NoneOver, LeastOf}
-use Rattle.cutoff.proofs.Halves.{imaginary-lt, labels, masked, none-wider, parts-beyond}
+use Rattle.cutoff.specs.Answers.{anyPart, leastPart, opened, opensByParts}
+use Rattle.cutoff.proofs.Halves.{imaginary-lt, labels, masked}
+use Rattle.cutoff.proofs.Answers.{least-of, open-base, open-first, first-asked, first-unasked, second-asked, second-unasked, parts-by}
 use Rattle.cutoff.proofs.opens_by_parts.Statement.{statement}
 use Rattle.cutoff.proofs.opens_by_parts.Tie as tie
 
@@ -53,15 +56,43 @@ module _ (c : tie.After-least-part2) where
   abbrev least : ℕ
   least = start .args .partial + (re + im)
 
-  least-re : LeastOf part-re (2 ^ (start .args .q - start .args .q / 2)) re
-  least-re = let f = re-fits start in simp toZ-ofZ at (c .before .before .least-part .ensures)
+  re-is : re ≡ leastPart part-re (2 ^ (start .args .q - start .args .q / 2) - 1)
+  re-is = let f = re-fits start in simp toZ-ofZ at (c .before .before .least-part .ensures)
 
-  least-im : LeastOf part-im (2 ^ (start .args .q / 2)) im
-  least-im = let f = im-fits start in simp toZ-ofZ at (c .least-part2 .ensures)
+  im-is : im ≡ leastPart part-im (2 ^ (start .args .q / 2) - 1)
+  im-is = let f = im-fits start in simp toZ-ofZ at (c .least-part2 .ensures)
 
   -- The three numbers are small enough to add
   small : (start .args .partial < 2 ^ 61) × (re < 2 ^ 62) × (im < 2 ^ 62)
-  small = (start .pre .low, least-re .low, least-im .low)
+  small = (
+    start .pre .low,
+    rw re-is (least-of _ _ (pow-pos (start .args .q - start .args .q / 2)) (start .pre .first .small) .low),
+    rw im-is (least-of _ _ (pow-pos (start .args .q / 2)) (start .pre .second .small) .low),
+  )
+
+  -- The answers of both axes, and the places of their widest entries
+  abbrev q : ℕ
+  q = start .args .q
+
+  abbrev any-re : Bool
+  any-re =
+      anyPart (start .args .entries .now) 0 part-re (start .args .partial + im) (start .args .own / 2 ^ (q / 2)) 0 (2 ^ (q - q / 2))
+
+  abbrev any-im : Bool
+  any-im =
+      anyPart (start .args .entries .now) span part-im (start .args .partial + re) (start .args .own % 2 ^ (q / 2)) 0 (2 ^ (q / 2))
+
+  abbrev widest : ℕ
+  widest = getD (start .args .entries .now) (1 * 2 ^ (q - q / 2) % 2 ^ 64 - 1) 0
+
+  abbrev wider : ℕ
+  wider = getD (start .args .entries .now) (span + (1 * 2 ^ (q / 2) % 2 ^ 64 - 1)) 0
+
+  whole : opened (start .args .base) least widest any-re wider any-im
+      ≡ opensByParts q (start .args .partial) (start .args .base) part-re part-im (start .args .entries .now) (start .args .own)
+  whole =
+      parts-by q (start .args .partial) (start .args .base) part-re part-im (start .args .entries .now) (start .args .own) re im _ _ re-is im-is
+      (omega (arith, count start real)) (omega (arith, count start imaginary))
 
 real-asked : tie.Need-any-part-of-requires
 real-asked c κs =
@@ -88,27 +119,13 @@ module _ (c : tie.Joined2) where
   abbrev begin : tie.Start
   begin = start found
 
-  -- no real part is below its entry: the parts were held against the entries, or the widest of these is not above `least`
-  over-re : let a = begin .args in
-      NoneOver (a .entries .now) 0 (2 ^ (a .q - a .q / 2)) (part-re found) (a .partial + im found) (a .own / 2 ^ (a .q / 2))
-  over-re =
-      let a = begin .args in
+  -- it opens nothing: its parts were held against the entries, or the widest of these is not above `least`
+  first-shut : (ltb (least found) (widest found) && any-re found) ≡ false
+  first-shut =
       let f = re-fits begin in
-      ⊎-elim (λ t. simp toZ-ofZ at (t .2 .ensures (t .3 .left)))
-      (λ e.
-      none-wider (a .entries .now) 0 (a .q - a .q / 2) (part-re found) (a .partial + im found) (least found) _ _ (begin .pre .widest .real)
-      (λ g h. omega (arith, least-re found .least-le g h)) (first-half (a .q) (a .own) (begin .pre .symbol))
-      (omega (arith, count begin real)) (e .left)) (c .if2 .came)
-
-  -- so that every child would be cut where no imaginary part is
-  all-beyond : let a = begin .args in
-      NoneOver (a .entries .now) span (2 ^ (a .q / 2)) (part-im found) (a .partial + re found) (a .own % 2 ^ (a .q / 2))
-      → (s : ℕ) → s < 2 ^ a .q
-      → Beyond (a .q) (a .base) (a .entries .now) (a .own) (childMetric (a .q) (a .partial) (part-re found) (part-im found) s) s
-  all-beyond =
-      let a = begin .args in
-      parts-beyond (a .q) (a .partial) (part-re found) (part-im found) (re found) (im found) (a .base) (a .entries .now) (a .own)
-      (least-re found .least-le) (least-im found .least-le) (held .if1 .left) over-re
+      ⊎-elim
+      (λ t. first-asked (begin .args .base) _ _ _ (wider found) (any-im found) (t .0 .taken) (sym (simp toZ-ofZ at (t .2 .ensures)) ∙ t .3 .left))
+      (λ e. first-unasked (begin .args .base) _ _ _ (wider found) (any-im found) (e .left)) (c .if2 .came)
 
 imaginary-asked : tie.Need-any-part-of-requires-2
 imaginary-asked c κs =
@@ -125,26 +142,34 @@ imaginary-asked c κs =
       label = imaginary-lt (s .args .q) (s .args .own);
     }))
 
-never : true ≡ false → ⊥
-never e = let z : _≡_ {A = ℕ} 0 1 = cc in omega arith
+returns : tie.Need-returns
+returns c = let n = c .before in open-base _ (least n) (widest n) (any-re n) (wider n) (any-im n) (c .if1 .taken) ∙ whole n
+
+returns-2 : tie.Need-returns-2
+returns-2 c =
+    let k = c .before in
+    let t = k .before .before in
+    let l = t .before .before in
+    let n = l .before in
+    let f = re-fits (start n) in
+    open-first _ (least n) (widest n) (any-re n) (wider n) (any-im n) (l .if1 .left) (t .if2 .taken)
+    (sym (simp toZ-ofZ at (k .any-part-of .ensures)) ∙ c .if3 .taken) ∙ whole n
 
 returns-3 : tie.Need-returns-3
-returns-3 c e =
+returns-3 c =
     let j = c .before .before in
     let n = found j in
-    let s = start n in
-    let a = s .args in
-    all-beyond j
-    (none-wider (a .entries .now) span (a .q / 2) (part-im n) (a .partial + re n) (least n)
-    (span + (1 * 2 ^ (a .q / 2) % 2 ^ 64 - 1)) _ (s .pre .widest .imaginary)
-    (λ g h. omega (arith, least-im n .least-le g h)) (imaginary-lt (a .q) (a .own)) (omega (arith, count s imaginary)) (c .if4 .taken))
+    second-unasked _ (least n) (widest n) (any-re n) (wider n) (any-im n) (held j .if1 .left) (first-shut j) (c .if4 .taken) ∙ whole n
 
 returns-4 : tie.Need-returns-4
-returns-4 c e =
+returns-4 c =
     let j = c .before .before .before .before in
-    let s = begin j in
+    let n = found j in
+    let s = start n in
     let f = im-fits s in
-    all-beyond j (simp (toZ-ofZ, masked (s .args .q) (s .args .own) (s .pre .bits)) at (c .any-part-of2 .ensures e))
+    simp (toZ-ofZ, masked (q n) (s .args .own) (s .pre .bits)) at (c .any-part-of2 .ensures)
+    ∙ second-asked _ (least n) (widest n) (any-re n) (wider n) (any-im n) (held j .if1 .left) (first-shut j) (omega (arith, c .before .before .if4 .left))
+    ∙ whole n
 
 pub opens-by-parts-spec : {M : Type 1} → statement M
 opens-by-parts-spec =
@@ -162,14 +187,14 @@ opens-by-parts-spec =
     (λ c κs. search needs)
     (λ c. omega (arith, small c))
     (λ c. omega (arith, small c))
-    (λ c e. absurd (never e))
+    returns
     (λ c. search needs)
     (λ c. omega (arith, count (start (c .before)) real))
     (λ c. omega (arith, count (start (c .before)) real))
     (λ c. omega (arith, count (start (c .before .before)) real, start (c .before .before) .pre .stream))
     (λ c. omega (arith, small (c .before .before .before)))
     real-asked
-    (λ c e. absurd (never e))
+    returns-2
     (λ c. omega (arith, count (begin c) imaginary))
     (λ c. omega (arith, count (begin c) imaginary))
     (λ c. omega (arith, count (begin (c .before)) imaginary, begin (c .before) .pre .stream))

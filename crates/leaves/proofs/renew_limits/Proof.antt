@@ -1,11 +1,16 @@
 -- The limits are filled in behind the minima, and then what they give behind the limits.
 use borrow.Author.Needs.{needs}
-use mathlib.Core.Path.{sym, _∙_}
+use Prim.Native.Nat.{ℕ}
+use mathlib.Core.Path.{sym, _∙_, ap}
+use mathlib.Core.List.{List}
 use Rattle.model.specs.Metric.{Vector}
 use Rattle.block.proofs.Places.{rows-count}
+use Rattle.pruning.proofs.Minima.{limits-part}
+use Rattle.reach.specs.Reach.{reachesIn}
+use Rattle.reach.proofs.Streams.{reaches}
 use Rattle.reach.proofs.Passing.{none-stands}
 use Rattle.leaves.specs.Limits.{vectorFor}
-use Rattle.leaves.proofs.Renewed.{lentLimits, lent-whole, made-whole, made-kept, made-right, renewed}
+use Rattle.leaves.proofs.Renewed.{lentLimits, lent-whole, made-whole, made-kept, made-limits, made-right, limits-after, renewed}
 use Rattle.leaves.proofs.renew_limits.Statement.{statement}
 use Rattle.leaves.proofs.renew_limits.Tie as tie
 
@@ -41,12 +46,19 @@ returns c =
     let made = l .limit-all .ensures in
     let whole = made-whole (v s) m few label best old mid (s .pre .2) made in
     let right = made-right (v s) m few label best old mid (s .pre .2) made in
-    let r = renewed (v s) m (sym (rows-count _ _ _)) label best mid whole right (f .fill .last .1 .1 .0) (f .fill .ensures) in
-    record {
-      size = r .size ∙ whole ∙ sym (s .pre .2);
-      kept = r .kept ∙ made-kept (v s) m few label best old mid (s .pre .2) made;
-      reached = r .reached;
-    }
+    let p = s .pre .0 .vector in
+    let gives = reaches (lentLimits mid) (p .streams) (p .bits) (p .label) (lent-whole mid whole) (f .fill .ensures) in
+    let rows = sym (rows-count m (s .args .sizes .width) (s .args .numbers .now)) in
+    let r = renewed (v s) m rows label best mid whole right _ gives in (
+      record {
+        size = r .size ∙ whole ∙ sym (s .pre .2);
+        kept = r .kept ∙ made-kept (v s) m few label best old mid (s .pre .2) made;
+        reached = r .reached;
+      },
+      limits-after (v s) m rows label best mid whole right _ gives ∙ f .fill .ensures
+          ∙ ap (λ (l : List ℕ). reachesIn (s .args .sizes .width) l m)
+          (limits-part mid ∙ made-limits (v s) m few label best old mid (s .pre .2) made),
+    )
 
 pub renew-limits-spec : {M : Type 1} → statement M
 renew-limits-spec =

@@ -11,13 +11,15 @@ use lib.ListN.{length}
 use Rattle.model.specs.Block.{mostBits}
 use Rattle.model.specs.Metric.{Vector, labelBits}
 use Rattle.block.proofs.Places.{rows-count}
-use Rattle.reach.specs.Reach.{limitIn, StandsFor, Reaches}
+use Rattle.reach.specs.Reach.{limitIn, StandsFor, Reaches, reachesIn}
+use Rattle.reach.proofs.Streams.{reaches}
+use Rattle.pruning.proofs.Minima.{limits-part}
 use Rattle.pruning.specs.Program.{above, takenIn, limitsOf, keptOf, sooner}
 use Rattle.leaves.specs.Limits.{vectorFor, limitAt, minimaSize, OwnLow, Limited, Renewed}
 use Rattle.leaves.proofs.Limits.{reached-limited}
-use Rattle.leaves.proofs.Leaves.{not-sooner, is-sooner, leaf-noted}
+use Rattle.leaves.proofs.Leaves.{not-sooner, is-sooner, sides-noted, leaf-noted}
 use Rattle.leaves.proofs.Own.{own-new, own-kept, low-beside}
-use Rattle.leaves.proofs.Renewed.{lentLimits, lent-whole, renewed, narrowed-whole, narrowed-right, narrowed-stands}
+use Rattle.leaves.proofs.Renewed.{lentLimits, lent-whole, limits-after, renewed, narrowed-whole, narrowed-right, narrowed-stands, after-best, after-other}
 use Rattle.leaves.proofs.Values.{bits-are}
 use Rattle.leaves.proofs.take.Statement.{statement}
 use Rattle.leaves.proofs.take.Tie as tie
@@ -129,12 +131,17 @@ returns c =
     let w = f .before .before .before .before in
     let s = begin (before w) in
     let a = s .args in
-    let r =
-    renewed (v s) (a .sizes .streams) (rows s) (a .kept .label) (a .kept .best) (mid w) (mid-whole w) (limits-right w) (f .fill .last .1 .1 .0)
-    (f .fill .ensures) in
+    let m = a .sizes .streams in
+    let p = s .pre .0 .vector in
+    let gives = reaches (lentLimits (mid w)) (p .streams) (p .bits) (p .label) (lent-whole (mid w) (mid-whole w)) (f .fill .ensures) in
+    let r = renewed (v s) m (rows s) (a .kept .label) (a .kept .best) (mid w) (mid-whole w) (limits-right w) _ gives in
     let label = ap (λ (b : Bool). cond b (a .leaf .label) (a .kept .label)) (sym (later (before w))) in (
       ap (keptOf (a .kept .count) (a .kept .stopped))
           (leaf-noted (a .kept .label) (a .kept .best) (bits s) (w .narrow .ensures .sides) label (omega (arith, lowest (before w))) r),
+      limits-after (v s) m (rows s) (a .kept .label) (a .kept .best) (mid w) (mid-whole w) (limits-right w) _ gives ∙ f .fill .ensures
+          ∙ ap (λ (l : List ℕ). reachesIn (a .sizes .width) l m) (limits-part (mid w) ∙ w .narrow .ensures .limits)
+          ∙ after-other (v s) m (a .leaf .label) (a .leaf .metric) (takenIn (a .kept .label) (a .kept .best) (a .minima .now))
+          (limitsOf (a .minima .now)) (later (before w)),
       limited s (a .kept .label) (a .kept .best) (mid w) _ (placed (before w)) (own-then w) r,
       r .size ∙ mid-whole w,
     )
@@ -152,9 +159,14 @@ returns-2 c =
     let label = ap (λ (b : Bool). cond b (a .leaf .label) (a .kept .label)) (sym first) in
     let low = is-sooner (a .leaf .metric) (a .leaf .label) (a .kept .best) (a .kept .label) first in (
       ap (keptOf (a .kept .count) (a .kept .stopped))
-          (leaf-noted (a .kept .label) (a .kept .best) (bits s) (m .note .ensures) label (omega (arith, low)) (r .renew-limits .ensures)),
-      limited s (a .leaf .label) (a .leaf .metric) _ _ (s .pre .3) (own-new (few s) (s .pre .2) (m .note .ensures) (v s) (bits s)) (r .renew-limits .ensures),
-      r .renew-limits .ensures .size ∙ m .note .ensures .size ∙ s .pre .2,
+          (leaf-noted (a .kept .label) (a .kept .best) (bits s) (m .note .ensures .0) label (omega (arith, low)) (r .renew-limits .ensures .0)),
+      r .renew-limits .ensures .1
+          ∙ after-best (v s) (a .sizes .streams) (a .leaf .label) (a .leaf .metric) (takenIn (a .kept .label) (a .kept .best) (a .minima .now))
+          (limitsOf (a .minima .now)) first _ _
+          (sides-noted (v s) _ _ (a .kept .label) (a .kept .best) (bits s) (m .note .ensures .0) label (omega (arith, low))) (m .note .ensures .1),
+      limited s (a .leaf .label) (a .leaf .metric) _ _ (s .pre .3) (own-new (few s) (s .pre .2) (m .note .ensures .0) (v s) (bits s))
+          (r .renew-limits .ensures .0),
+      r .renew-limits .ensures .0 .size ∙ m .note .ensures .0 .size ∙ s .pre .2,
     )
 
 pub take-spec : {M : Type 1} → statement M

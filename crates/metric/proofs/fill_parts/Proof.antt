@@ -1,14 +1,16 @@
--- The array is filled by the two axes' parts, on the labels that the symbols have, so the sums are the children's partial metrics.
+-- One axis, then the other.
 use borrow.Author.Needs.{needs}
 use Prim.Native.Nat.{_≤_, _<_}
+use mathlib.Core.Path.{ap, _∙_}
 use native.Mathlib.Omega.{arith}
 use mir.Syntax.{w64}
 use mir.Val.{SFits}
 use mir.Facts.{toZ-ofZ}
 use Rattle.integers.proofs.Fits.{sfits-abs}
-use Rattle.constellation.specs.Points.{complexOf}
+use Rattle.metric.specs.Parts.{filledFrom}
+use Rattle.metric.specs.Tables.{partsIn}
 use Rattle.metric.specs.Tables.Axis.{real, imaginary}
-use Rattle.metric.proofs.Bridge.{axis-asked, measured-by}
+use Rattle.metric.proofs.Bridge.{axis-asked}
 use Rattle.metric.proofs.fill_parts.Statement.{statement}
 use Rattle.metric.proofs.fill_parts.Tie as tie
 
@@ -32,14 +34,13 @@ imaginary-asked c κs =
     (simp toZ-ofZ (axis-asked (s .pre .0) (s .args .row) (s .pre .2) (s .pre .1) imaginary (s .args .left .im) (s .pre .4)), omega arith)
 
 returns : tie.Need-returns
-returns c node is =
+unfolding partsIn
+returns c =
     let a = c .before .before .before in
     let s = a .before .before .before in
-    let left = s .args .left in
     let f = re-fits s in
     let g = im-fits s in
-    measured-by (s .pre .0) (s .args .row) (s .pre .2) node (complexOf (left .re) (left .im)) is (s .pre .1) (s .pre .3) (s .pre .4)
-    (s .args .axes .now) (s .pre .5) (s .pre .6) _ _ (simp toZ-ofZ at (a .fill-axis .ensures)) (simp toZ-ofZ at (c .fill-axis2 .ensures))
+    simp toZ-ofZ at (c .fill-axis2 .ensures) ∙ ap (filledFrom _ _ _) (simp toZ-ofZ at (a .fill-axis .ensures))
 
 pub fill-parts-spec : {M : Type 1} → statement M
 fill-parts-spec =

@@ -8,25 +8,25 @@ use lib.ListN.{length, replicate}
 use lib.Pow.{pow-mono}
 use Rattle.metric.specs.Parts.{axisWidth, span, imaginaryIn, rowMetric, measuredTo, filledFrom, AllSmall}
 use Rattle.metric.proofs.Filled.{from-at, from-same, from-all, zeros-small}
-use Rattle.metric.proofs.Grid.{rows-all, row-room, row-more}
+use Rattle.metric.proofs.Grid.{row-room, row-more}
 use Rattle.metric.proofs.Pass.{pass-none, pass-length}
 use Rattle.metric.proofs.Shifts.{one-shifted}
 use Rattle.metric.proofs.fill_rows.Statement.{statement}
 use Rattle.metric.proofs.fill_rows.Tie as tie
 
 abbrev Inv-loop : tie.InvT-loop
-Inv-loop q partial axes keys₀ rows n parts a₀ keys a =
-    (rows ≡ 2 ^ (q - q / 2)) × (n ≡ 2 ^ (q / 2)) × (a ≤ rows) × (keys ≡ measuredTo q partial axes (a * n) keys₀)
+Inv-loop q partial axes rows keys₀ n parts a₀ keys a =
+    (rows ≤ 2 ^ (q - q / 2)) × (n ≡ 2 ^ (q / 2)) × (a ≤ rows) × (keys ≡ measuredTo q partial axes (a * n) keys₀)
 
 abbrev μ-loop : tie.MeasureT-loop
-μ-loop q partial axes keys₀ rows n parts a₀ keys a = rows - a
+μ-loop q partial axes rows keys₀ n parts a₀ keys a = rows - a
 
 loop-holds : tie.Need-loop-holds Inv-loop μ-loop
 loop-holds c =
     let s = c .before .before .before in
     let q = s .args .q in
     let z : 0 * (1 * 2 ^ (q / 2) % 2 ^ 64) ≡ 0 = zero-mul _ in
-    (one-shifted (q - q / 2) (omega (arith, s .pre .0)), one-shifted (q / 2) (omega (arith, s .pre .0)), omega arith, rw z (sym (pass-none _ _ _ _)))
+    (s .pre .4, one-shifted (q / 2) (omega (arith, s .pre .0)), omega arith, rw z (sym (pass-none _ _ _ _)))
 
 -- A row has at most a span of places, and there are at most as many rows
 few-columns : (c : tie.After-slice-known Inv-loop μ-loop) → 2 ^ (c .before .args .q / 2) ≤ span
@@ -107,8 +107,9 @@ returns : tie.Need-returns Inv-loop μ-loop
 returns c =
     let l = c .before in
     let q = l .before .before .before .before .args .q in
-    let a : l .loop .a ≡ 2 ^ (q - q / 2) = omega (arith, l .loop .inv .0, l .loop .inv .2, c .loop-test .left) in
-    let e : l .loop .a * (1 * 2 ^ (q / 2) % 2 ^ 64) ≡ 2 ^ q = rw (a, l .loop .inv .1) (rows-all q) in
+    let rows = l .before .before .before .before .args .rows in
+    let a : l .loop .a ≡ rows = omega (arith, l .loop .inv .2, c .loop-test .left) in
+    let e : l .loop .a * (1 * 2 ^ (q / 2) % 2 ^ 64) ≡ rows * 2 ^ (q / 2) = rw (a, l .loop .inv .1) in
     rw e at (l .loop .inv .3)
 
 pub fill-rows-spec : {M : Type 1} → statement M
@@ -117,8 +118,6 @@ fill-rows-spec =
     (tie.spec
     Inv-loop
     μ-loop
-    (λ c. omega arith)
-    (λ c. omega (arith, c .before .pre .0))
     (λ c. omega (arith, c .before .pre .0))
     (λ c κs. few-copied (c .before))
     loop-holds

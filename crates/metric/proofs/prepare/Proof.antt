@@ -1,8 +1,7 @@
--- The invariant: the axes of the rows so far are in the table.
+-- The invariant: the table is that with the rows so far.
 use borrow.Author.Needs.{needs, sfits-of}
-use mathlib.Core.Path.{_≡_, ap}
+use mathlib.Core.Path.{_≡_, refl, ap}
 use Prim.Native.Nat.{ℕ, _+_, _-_, _*_, _/_, _%_, _^_, _≤_}
-use native.Mathlib.Nat.{not-suc-le-zero}
 use native.Mathlib.Omega.{arith}
 use lib.Pow.{pow-mono}
 use mir.Syntax.{w64}
@@ -10,16 +9,16 @@ use mir.Val.{SFits}
 use mir.Facts.{toZ-ofZ}
 use Rattle.metric.specs.Parts.{axisWidth}
 use Rattle.metric.specs.Rows.{rowStart, priorStart}
-use Rattle.metric.specs.Tables.{TabledTo}
+use Rattle.metric.specs.Tables.{rowsIn}
 use Rattle.metric.specs.Tables.Axis.{real, imaginary}
 use Rattle.metric.proofs.Rows.{row-end, square-few, priors-few}
 use Rattle.metric.proofs.Shifts.{one-shifted}
-use Rattle.metric.proofs.Tables.{real-amplitudes, imaginary-amplitudes, entries-asked, tabled-more}
+use Rattle.metric.proofs.Tables.{real-amplitudes, imaginary-amplitudes, entries-asked, rows-more}
 use Rattle.metric.proofs.prepare.Statement.{statement}
 use Rattle.metric.proofs.prepare.Tie as tie
 
 abbrev Inv-loop : tie.InvT-loop
-Inv-loop points numbers tables₀ m q first second row₀ tables row = (row ≤ m) × TabledTo m q numbers tables row
+Inv-loop points numbers tables₀ m q first second row₀ tables row = (row ≤ m) × (tables ≡ rowsIn m q numbers row tables₀)
 
 abbrev μ-loop : tie.MeasureT-loop
 μ-loop points numbers tables₀ m q first second row₀ tables row = m - row
@@ -32,7 +31,8 @@ half : (c : tie.Start Inv-loop μ-loop) → c .args .shape .width / 2 ≤ axisWi
 half c = omega (arith, c .pre .0 .bits)
 
 loop-holds : tie.Need-loop-holds Inv-loop μ-loop
-loop-holds c = (omega arith, record { size = c .pre .1; axes = λ i h. absurd (not-suc-le-zero h) })
+unfolding rowsIn
+loop-holds c = (omega arith, refl)
 
 -- The sizes that the program computes with
 few : (c : tie.In-loop Inv-loop μ-loop)
@@ -81,7 +81,7 @@ loop-again c =
     let s = i .before .before in
     let f = diagonal-fits e in (
       omega (arith, i .loop-test .taken),
-      tabled-more (s .pre .0 .bits) (omega (arith, few i .0, i .loop-test .taken)) (i .before .loop .inv .1) (e .element .result) _ _
+      rows-more _ _ _ (s .args .tables .now) _ (i .before .loop .row) (i .before .loop .inv .1) (e .element .result) _ _
           (e .element .ensures)
           (simp toZ-ofZ at (c .before .before .before .fill-entries .ensures))
           (simp toZ-ofZ at (c .fill-entries2 .ensures)),

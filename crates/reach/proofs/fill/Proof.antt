@@ -1,34 +1,36 @@
--- The invariant: the limits are as they were, and what the first j streams give is there. The array was one that had another number at the
--- first place behind the limits, whatever that was.
+-- The invariant: what the first j streams give is there. The array was one that had another number at the first place behind the limits,
+-- whatever that was.
 use mathlib.Core.Path.{_≡_, refl, sym, ap, _∙_, subst}
 use mathlib.Core.List.{List}
 use Prim.Native.Nat.{ℕ, _+_, _-_, _*_, _/_, _%_, _^_, _≤_, _<_}
 use native.Mathlib.Nat.{mul-le-mul}
 use native.Mathlib.Numerals.{add-one}
 use native.Mathlib.Omega.{arith}
-use lib.ListN.{length, set}
+use lib.ListN.{set}
 use Rattle.model.specs.Block.{mostStreams, mostWidth, mostBits}
-use Rattle.reach.specs.Reach.{limitIn, limitsSize, StreamRight, symbolOf, Reaches}
-use Rattle.reach.proofs.Streams.{bits-few, Filling, reaches-none, still-right, reaches-more}
+use Rattle.reach.specs.Reach.{limitIn, StreamRight, symbolOf, streamIn, reachesIn}
+use Rattle.reach.proofs.Streams.{bits-few, Filling, still-right, filling}
 use Rattle.reach.proofs.fill.Statement.{statement}
 use Rattle.reach.proofs.fill.Tie as tie
 
 abbrev Inv-loop : tie.InvT-loop
 Inv-loop m q limits₀ changed j₀ limits j =
-    (j ≤ m) × ((old : List ℕ) → limits₀ ≡ set old mostBits 0 → length old ≡ limitsSize → Filling q old limits j)
+    (j ≤ m) × ((old : List ℕ) → limits₀ ≡ set old mostBits 0 → limits ≡ reachesIn q old j)
 
 abbrev μ-loop : tie.MeasureT-loop
 μ-loop m q limits₀ changed j₀ limits j = m - j
 
 loop-holds : tie.Need-loop-holds Inv-loop μ-loop
-loop-holds c =
-    let q = c .before .args .q in
-    (omega arith, λ old e room. subst (λ (x : List ℕ). Filling q old x 0) (sym e) (reaches-none q old room))
+unfolding reachesIn
+loop-holds c = (omega arith, λ old e. e)
 
 so-far : (c : tie.At-loop Inv-loop μ-loop)
     → let a = c .before .before .args in
     Filling (a .q) (a .limits .now) (c .loop .limits) (c .loop .j)
-so-far c = let s = c .before .before in c .loop .inv .1 (s .args .limits .now) refl (s .pre .3)
+so-far c =
+    let s = c .before .before in
+    subst (λ (x : List ℕ). Filling (s .args .q) (s .args .limits .now) x (c .loop .j)) (sym (c .loop .inv .1 (s .args .limits .now) refl))
+    (filling (s .args .limits .now) (s .pre .0) (s .pre .1) (s .pre .2) (s .pre .3) (c .loop .j) (c .loop .inv .0))
 
 inside : (c : tie.In-loop Inv-loop μ-loop) → c .before .loop .j < mostStreams
 inside c = omega (arith, c .before .before .before .pre .0, c .loop-test .taken)
@@ -42,12 +44,13 @@ label c =
     bits-few (s .args .q) (c .before .loop .j) (s .args .m) (c .loop-test .taken) (s .pre .2)
 
 loop-again : tie.Need-loop-again Inv-loop μ-loop
+unfolding reachesIn
 loop-again c =
     let i = c .before .before .before .before .before in
     let l = i .before in
-    let p = l .before .before .pre in (
+    let q = l .before .before .args .q in (
       omega (arith, i .loop-test .taken),
-      λ old e room. reaches-more old (p .1) (label i) (l .loop .inv .1 old e room) (c .before .before .fill-stream .ensures),
+      λ old e. rw add-one (c .before .before .fill-stream .ensures ∙ ap (λ (x : List ℕ). streamIn q x (l .loop .j)) (l .loop .inv .1 old e)),
     )
 
 -- The bits after the symbol of a turn are few enough for a shift
@@ -77,7 +80,7 @@ returns c =
     let l = c .before in
     let a = l .before .before .args in
     let e : l .loop .j ≡ a .m = omega (arith, l .loop .inv .0, c .loop-test .left) in
-    subst (Reaches (a .q) (limitIn (a .limits .now)) (l .loop .limits)) e (so-far l .made)
+    l .loop .inv .1 (a .limits .now) refl ∙ ap (reachesIn (a .q) (a .limits .now)) e
 
 pub fill-spec : {M : Type 1} → statement M
 fill-spec =

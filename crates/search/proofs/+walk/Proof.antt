@@ -1,7 +1,7 @@
 -- Each turn over the node's children is one step of the search below the node, as the turn's answer says.
 use mathlib.Core.Logic.{⊎-elim}
 use mathlib.Core.Bool.{false}
-use mathlib.Core.Path.{_≡_, refl, _∙_, sym, ap, ap₂, subst}
+use mathlib.Core.Path.{_≡_, refl, _∙_, sym, ap, subst}
 use mathlib.Core.List.{List}
 use Prim.Native.Nat.{ℕ, _<_, _≤_, _+_, _-_, _*_, _^_}
 use native.Mathlib.Omega.{arith}
@@ -24,13 +24,12 @@ use Rattle.search.specs.declared.Turn.{Turn}
 use Rattle.search.specs.declared.Turn.the-variants.{Ended, Cut, Stop, Left, Leaf, Enter}
 use Rattle.children.proofs.Nodes.{room-for, partial-under, leaf-placed, kids-few}
 use Rattle.search.proofs.Search.{Searching, leaf-noted, places-few, start, limits-asked, next-asked}
-use Rattle.search.proofs.Search.{done, ended, halts, cut, left, past, child-asked, child-in, stops, onward, onward-here}
+use Rattle.search.proofs.Search.{done, ended, halts, cut, past, child-asked, child-in, stops, onward, onward-here}
 use Rattle.search.proofs.walk.Reads as walk
 use Rattle.search.proofs.walk.Kinds as walk-kinds
 use Rattle.search.proofs.+walk.Lts-walk as walk-lts
 use Rattle.search.proofs.advance.Reads as advance-reads
 use Rattle.search.proofs.counted.Reads as counted-reads
-use Rattle.search.proofs.counted_with.Reads as counted-with-reads
 use Rattle.search.proofs.halted.Reads as halted-reads
 use Rattle.search.proofs.key_places.Reads as key-places-reads
 use Rattle.search.proofs.renew_node.Reads as renew-node-reads
@@ -67,8 +66,6 @@ calls t = (
   advance-reads.Learnt,
   halted-reads.Asked,
   halted-reads.Learnt,
-  counted-with-reads.Asked,
-  counted-with-reads.Learnt,
   counted-reads.Asked,
   counted-reads.Learnt,
   take-leaf-reads.Asked,
@@ -144,37 +141,6 @@ module _ (t : ℕ) (c : walk-lts.After-advance (calls t) (walk-at t) walk.Post I
   lower-is : lower ≡ behind (begin .args .task .width) after
   lower-is = ap (λ (x : ℕ). take (length after - x) (drop x after)) places-are
 
--- The child is counted, and some of its own children, and nothing is searched below it: what is kept then
-module _ (t : ℕ) (c : walk-lts.After-counted-with (calls t) (walk-at t) walk.Post Inv μ-loop) where
-  abbrev counting : walk-lts.After-advance (calls t) (walk-at t) walk.Post Inv μ-loop
-  counting = c .before .before .before .before .before .before
-
-  abbrev many : ℕ
-  many = c .before .before .more .given .0 .0
-
-  over : CameTo t counting (Left many)
-  over = answers t counting (Left many) (c .before .before .more .given .1)
-
-  abbrev counted : Kept
-  counted =
-      keptOf (c .counted-with .result .count) (c .counted-with .result .stopped)
-      (takenIn (c .counted-with .result .label) (c .counted-with .result .best) (loop t counting .loop .minima))
-
-  same-taken : counted .taken ≡ takenIn (loop t counting .loop .k .label) (loop t counting .loop .k .best) (loop t counting .loop .minima)
-  same-taken =
-      let e = c .counted-with .ensures in
-      ap₂ (λ (x y : ℕ). takenIn x y (loop t counting .loop .minima)) (e .2) (e .3)
-
-  counted-found : let a = begin t counting .args in
-      let l = loop t counting .loop in
-      let n = next t counting in
-      counted ≡ below (vectorFor (a .task) (a .numbers .now)) (a .task .allowance) (n .level) (n .bits) (n .partial)
-      (keptOf (l .k .count + 1) false (takenIn (l .k .label) (l .k .best) (l .minima)))
-  counted-found =
-      let e = c .counted-with .ensures in
-      (λ j. keptOf (e .0 j) (e .1 j) (same-taken j))
-      ∙ left (searching t counting) (more t counting) (over .0 .took) (over .0 .passes) (over .0 .more) (over .1) (over .2)
-
 -- The child is a leaf, and was taken: what is kept then
 module _ (t : ℕ) (c : walk-lts.After-take-leaf (calls t) (walk-at t) walk.Post Inv μ-loop) where
   abbrev reaching : walk-lts.After-advance (calls t) (walk-at t) walk.Post Inv μ-loop
@@ -194,7 +160,7 @@ module _ (t : ℕ) (c : walk-lts.After-take-leaf (calls t) (walk-at t) walk.Post
   -- The search goes on
   leaf-runs : leafKept .stopped ≡ false
   leaf-runs =
-      ap (λ (x : Kept). x .stopped) (c .take-leaf .ensures .0) ∙ c .before .before .counted .ensures .1 ∙ searching t reaching .running
+      ap (λ (x : Kept). x .stopped) (c .take-leaf .ensures .0) ∙ c .before .before .counted2 .ensures .1 ∙ searching t reaching .running
 
   leaf-found : let a = begin t reaching .args in
       let l = loop t reaching .loop in
@@ -204,7 +170,7 @@ module _ (t : ℕ) (c : walk-lts.After-take-leaf (calls t) (walk-at t) walk.Post
   leaf-found =
       let a = begin t reaching .args in
       let l = loop t reaching .loop in
-      let h = c .before .before .counted .ensures in
+      let h = c .before .before .counted2 .ensures in
       rw (h .0, h .1, h .2, h .3) at (c .take-leaf .ensures .0)
       ∙ ap
       (λ (n : Node).
@@ -238,7 +204,7 @@ module _ (t : ℕ) (c : walk-lts.After-walk (calls t) (walk-at t) walk.Post Inv 
   found =
       let a = begin t (turned t entry) .args in
       let l = loop t (turned t entry) .loop in
-      let h = c .before .before .before .counted2 .ensures in
+      let h = c .before .before .before .counted3 .ensures in
       rw (h .0, h .2, h .3) at (c .walk .ensures .0)
       ∙ ap
       (λ (n : Node).
@@ -303,11 +269,7 @@ pub +walk-spec : {M : Type 1} → statement M
     (λ c. let a = c .before .before .before .before .before in let h = c .halted .ensures in let r = answers t a Stop (c .before .enum-told2 .given .1) in
     (rw (h .0, h .1, h .2, h .3) (halts (searching t a) (more t a) (r .0) (r .1)), rw (h .2, h .3) (searching t a .limited), loop t a .loop .inv .2))
     (λ c. c .match .keys3)
-    (λ c κs. search needs)
-    (λ c. let a = counting t (c .before) in loop t a .loop .inv .2 ∙ sym (begin t a .pre .1 .3))
-    (λ c. let a = counting t (c .before) in after-length t a ∙ loop t a .loop .inv .3)
-    (λ c. let w = c .before in let a = counting t w in let n = over t w .0 in
-    (stops (searching t a) (more t a) (n .took) (n .passes) (n .more) (counted t w) (counted-found t w) (c .if1 .taken), rw (same-taken t w) (searching t a .limited), loop t a .loop .inv .2))
+    (λ c κs. let a = c .before .before .before .before in countable t a (answers t a Left (c .enum-told3 .given .1) .0 .more))
     (λ c. c .match .keys4)
     (λ c κs. let a = c .before .before .before .before .before in let g = c .before .leaf .given in countable t a (answers t a (Leaf (g .0 .0)) (g .1) .0 .more))
     (λ c κs. let a = c .before .before .before .before .before .before .before in let l = loop t a .loop in let h = searching t a in let g = c .before .before .before .leaf .given in let r = answers t a (Leaf (g .0 .0)) (g .1) in (
@@ -315,7 +277,7 @@ pub +walk-spec : {M : Type 1} → statement M
       omega (arith, ap (λ (n : Node). n .partial) (r .1), partial-under (child-in h (more t a))),
       l .inv .2,
       subst (λ (n : Node). n .bits < 2 ^ (begin t a .args .task .streams * begin t a .args .task .width)) (sym (r .1)) (leaf-placed (child-in h (more t a)) (r .2)),
-      rw (c .before .counted .ensures .2, c .before .counted .ensures .3) (h .limited),
+      rw (c .before .counted2 .ensures .2, c .before .counted2 .ensures .3) (h .limited),
     ))
     (λ c. omega (arith, c .before .before .take-leaf .ensures .2))
     (λ c. omega (arith, c .before .before .before .take-leaf .ensures .2))
@@ -328,10 +290,10 @@ pub +walk-spec : {M : Type 1} → statement M
     (λ c. let a = c .before .before .before .before .before .before in rw (loop t a .loop .inv .1) (wide t a))
     (λ c. let a = c .before .before .before .before .before .before in rw (loop t a .loop .inv .1) (wide t a))
     (λ c. le-refl _)
-    (λ c κs. let e = c .before .before .before .before in let a = turned t e in let s = begin t a in let l = loop t a .loop in let h = searching t a in let r = entered t e in let k = c .before .before .counted2 .ensures in (
+    (λ c κs. let e = c .before .before .before .before in let a = turned t e in let s = begin t a in let l = loop t a .loop in let h = searching t a in let r = entered t e in let k = c .before .before .counted3 .ensures in (
       omega (arith, s .pre .0, l .inv .4, h .inner, ap (λ (n : Node). n .level) (r .1)),
       (
-        subst (λ (n : Node). NodeAsked (s .args .task .streams) (s .args .task .width) (s .args .task .clip) (s .args .numbers .now) n (takenIn (c .before .before .counted2 .result .label) (c .before .before .counted2 .result .best) (l .minima)) (limitsOf (l .minima)) (lower t a)) (sym (r .1))
+        subst (λ (n : Node). NodeAsked (s .args .task .streams) (s .args .task .width) (s .args .task .clip) (s .args .numbers .now) n (takenIn (c .before .before .counted3 .result .label) (c .before .before .counted3 .result .best) (l .minima)) (limitsOf (l .minima)) (lower t a)) (sym (r .1))
             (rw (k .2, k .3)
             (subst (λ (keys : List ℕ). NodeAsked (s .args .task .streams) (s .args .task .width) (s .args .task .clip) (s .args .numbers .now) (next t a) (takenIn (l .k .label) (l .k .best) (l .minima)) (limitsOf (l .minima)) keys) (sym (lower-is t a))
             (child-asked h (more t a) (r .0 .took) (r .0 .passes) (r .0 .more)))),
@@ -347,7 +309,7 @@ pub +walk-spec : {M : Type 1} → statement M
     (λ c. let w = c .before .before .before .before .before in w .walk .ensures .2 ∙ sym (begin t (turned t (entry t w)) .pre .1 .3))
     (λ c. let w = c .before .before .before .before .before in let a = turned t (entry t w) in then-length t w ∙ after-length t a ∙ loop t a .loop .inv .3)
     (λ c. let w = c .before .before .before .before .before in let e = entry t w in let a = turned t e in let n = entered t e .0 in
-    (stops (searching t a) (more t a) (n .took) (n .passes) (n .more) (kept t w) (found t w) (c .if2 .taken), w .walk .ensures .1, w .walk .ensures .2))
+    (stops (searching t a) (more t a) (n .took) (n .passes) (n .more) (kept t w) (found t w) (c .if1 .taken), w .walk .ensures .1, w .walk .ensures .2))
     (λ c. omega (arith, c .before .before .before .before .before .walk .ensures .2))
     (λ c. omega (arith, c .before .before .before .before .before .before .walk .ensures .2))
     (λ c. le-refl _)
@@ -358,17 +320,17 @@ pub +walk-spec : {M : Type 1} → statement M
     (λ c. let a = c .before .before .before in omega (arith, more t a, loop t a .loop .inv .0))
     (λ c. let a = c .before .before .before in let l = loop t a .loop in let h = searching t a in
     ⊎-elim
-    (λ x. let w : walk-lts.After-counted-with (calls t) (walk-at t) walk.Post Inv μ-loop = record { before = record { before = record { before = record { before = c .before; match = x .0 }; more = x .1 }; known-told = x .2 }; counted-with = x .3 } in let n = over t w .0 in (
+    (λ x. let r = answers t a Left (x .1 .given .1) in let e = x .2 .ensures in (
       l .inv .0,
       l .inv .1,
-      rw (x .5) (l .inv .2),
-      rw (x .6) (after-length t a ∙ l .inv .3),
-      rw (x .8) (l .inv .4),
-      rw (x .5, x .6, x .7, x .8) (past h (more t a) (n .took) (n .passes) (n .more) (counted t w) (counted-found t w) (same-taken t w) (x .4 .left)),
+      rw (x .3) (l .inv .2),
+      rw (x .4) (after-length t a ∙ l .inv .3),
+      rw (x .6) (l .inv .4),
+      rw (x .3, x .4, x .5, x .6, e .0, e .1, e .2, e .3) (past h (more t a) (r .0 .took) (r .0 .passes) (r .0 .more) (r .1) (r .2)),
       omega (arith, more t a, l .inv .0),
     ))
     (⊎-elim
-    (λ x. let w : walk-lts.After-take-leaf (calls t) (walk-at t) walk.Post Inv μ-loop = record { before = record { before = record { before = record { before = record { before = record { before = c .before; match = x .0 }; leaf = x .1 }; known-told2 = x .2 }; counted = x .3 }; take-leaf-arg = x .4 }; take-leaf = x .5 } in let s = begin t a in let n = reached t w .0 in (
+    (λ x. let w : walk-lts.After-take-leaf (calls t) (walk-at t) walk.Post Inv μ-loop = record { before = record { before = record { before = record { before = record { before = record { before = c .before; match = x .0 }; leaf = x .1 }; known-told = x .2 }; counted2 = x .3 }; take-leaf-arg = x .4 }; take-leaf = x .5 } in let s = begin t a in let n = reached t w .0 in (
       l .inv .0,
       l .inv .1,
       rw (x .11) (x .5 .ensures .2),
@@ -380,7 +342,7 @@ pub +walk-spec : {M : Type 1} → statement M
       omega (arith, more t a, l .inv .0),
     ))
     (⊎-elim
-    (λ x. let w : walk-lts.After-walk (calls t) (walk-at t) walk.Post Inv μ-loop = record { before = record { before = record { before = record { before = record { before = record { before = record { before = c .before; match = x .0 }; child = x .1 }; known-told3 = x .2 }; counted2 = x .3 }; lower = x .4 }; walk-arg = x .5 }; walk = x .6 } in let s = begin t a in let n = entered t (entry t w) .0 in (
+    (λ x. let w : walk-lts.After-walk (calls t) (walk-at t) walk.Post Inv μ-loop = record { before = record { before = record { before = record { before = record { before = record { before = record { before = c .before; match = x .0 }; child = x .1 }; known-told2 = x .2 }; counted3 = x .3 }; lower = x .4 }; walk-arg = x .5 }; walk = x .6 } in let s = begin t a in let n = entered t (entry t w) .0 in (
       l .inv .0,
       l .inv .1,
       rw (x .15) (x .6 .ensures .2),

@@ -1,8 +1,8 @@
 -- Each answer is one case of the definition: the node's own test, then the child's, the allowance, and what is found of the child's children.
 use Prim.Native.Nat.{ℕ, _-_, _≤_, _<_, _^_}
-use mathlib.Core.Path.{_≡_, refl, sym, _∙_, ap, subst}
+use mathlib.Core.Path.{_≡_, sym, _∙_, ap, subst}
+use mathlib.Core.Bool.{Bool, true, false}
 use mathlib.Core.List.{List}
-use mathlib.Core.Logic.{inl, inr}
 use native.Mathlib.Omega.{arith}
 use borrow.Author.Needs.{needs}
 use borrow.Author.Tests.{not-true, not-false}
@@ -13,10 +13,10 @@ use Rattle.siblings.specs.Rows.{keyCount, Took}
 use Rattle.search.specs.Limits.{sizesOf, passesAt}
 use Rattle.children.specs.Expand.{ExpandAsked, Expanded}
 use Rattle.search.specs.Turn.{behind, nextOf, Counts}
+use Rattle.leaves.specs.declared.Sizes.{Sizes}
 use Rattle.children.specs.declared.Node.{Node}
-use Rattle.children.specs.declared.Children.{Children}
-use Rattle.children.specs.declared.Children.the-variants.{Nothing, Number, Keys}
 use Rattle.search.proofs.Levels.{withLower, lower-behind, lower-took}
+use Rattle.children.proofs.Kids.{expanded}
 use Rattle.children.proofs.Nodes.{keys-rise, room-for}
 use Rattle.search.proofs.Values.{room-below}
 use Rattle.search.proofs.advance.Statement.{statement}
@@ -129,7 +129,7 @@ module _ (c : tie.After-expand) where
       (lower-took (a .task .width) (taken n) (lower c) (wide n) many (n .next-child .ensures .took)))
 
   -- and this is found of its children
-  found : (r : Children) → c .expand .result ≡ r
+  found : (r : Bool) → c .expand .result ≡ r
       → let a = start n .args in
       Expanded (a .task .streams) (a .task .width) (a .numbers .now) (child n) (a .kept .label) (a .kept .best) (a .limits .now) (behind (a .task .width) after) r
   found r e =
@@ -138,8 +138,11 @@ module _ (c : tie.After-expand) where
       (sym (ap (behind (a .task .width)) after-is ∙ lower-behind (a .task .width) (taken n) (lower c) (wide n) many))
       (subst (λ (x : Node). Expanded (a .task .streams) (a .task .width) (a .numbers .now) x (a .kept .label) (a .kept .best) (a .limits .now) (lower c) r)
       (n .next-child .ensures .is)
-      (subst (λ (x : Children). Expanded (a .task .streams) (a .task .width) (a .numbers .now) (n .next-child .result) (a .kept .label) (a .kept .best) (a .limits .now) (lower c) x)
-      e (rw (c .before .before .sizes-of .ensures) at (c .expand .ensures))))
+      (subst (λ (x : Bool). Expanded (a .task .streams) (a .task .width) (a .numbers .now) (n .next-child .result) (a .kept .label) (a .kept .best) (a .limits .now) (lower c) x)
+      e
+      (subst (λ (z : Sizes). Expanded (z .streams) (z .width) (a .numbers .now) (n .next-child .result) (a .kept .label) (a .kept .best) (a .limits .now) (lower c)
+      (c .expand .result)) (c .before .before .sizes-of .ensures)
+      (expanded (expand-requires (c .before) (c .expand .lifetimes)) (a .kept .label) (lower c) (c .expand .result) (c .expand .ensures)))))
 
 pub advance-spec : {M : Type 1} → statement M
 advance-spec =
@@ -168,12 +171,7 @@ advance-spec =
     (λ c. let p = c .before in omega (arith, places p, wide (known p)))
     (λ c. search needs)
     expand-requires
-    (λ c. c .match .keys1)
-    (λ c. c .match .keys2)
-    (λ c. c .match .keys3)
     (λ c. search needs)
-    (λ c. let e = c .before .before .before .before in (counted e, inner (p e), inl (refl, found e Nothing (c .enum-told .given .1))))
+    (λ c. let e = c .before .before .before in (counted e, inner (p e), found e false (not-true _ (c .if5 .taken))))
     (λ c. search needs)
-    (λ c. let e = c .before .before .before .before .before in let m = c .before .count .given in (counted e, inner (p e), inr (found e (Number (m .0 .0)) (m .1))))
-    (λ c. search needs)
-    (λ c. let e = c .before .before .before .before in (counted e, n e .next-child .ensures .is, inner (p e), found e Keys (c .enum-told2 .given .1))))
+    (λ c. let e = c .before .before .before in (counted e, n e .next-child .ensures .is, inner (p e), found e true (not-false _ (c .if5 .left)))))

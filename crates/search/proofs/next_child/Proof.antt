@@ -12,6 +12,7 @@ use Rattle.pruning.specs.Arrays.{leastFirst}
 use Rattle.pruning.proofs.Bounds.{symbol-inside}
 use Rattle.reach.specs.Reach.{streamReach, symbolOf}
 use Rattle.siblings.specs.Rows.{Took}
+use Rattle.siblings.proofs.Taking.{took}
 use Rattle.search.specs.Turn.{NextChild}
 use Rattle.children.specs.declared.Node.{Node}
 use Rattle.search.proofs.next_child.Statement.{statement}
@@ -38,7 +39,7 @@ picked m q n label limits keys after s own d inner t eo ed bits wide eb ew =
 inside : (t : tie.After-take) → let s = t .before .before .before .before .before .before in t .take .result < 2 ^ s .args .task .width
 inside t =
     let s = t .before .before .before .before .before .before in
-    symbol-inside (s .args .keys .now) (s .args .task .width) _ _ refl (t .take .ensures .first)
+    symbol-inside (s .args .keys .now) (s .args .task .width) _ _ refl (t .take .ensures .0)
 
 -- The best label's too
 own-inside : (y : tie.After-symbol-at)
@@ -63,5 +64,5 @@ next-child-spec =
     (λ c κs. search needs)
     (λ c. search needs)
     (λ c. let w = c .before .before in let y = w .before .before in let t = y .before .before .before in let s = t .before .before .before .before .before .before in
-    picked _ _ _ _ _ _ _ _ _ _ (s .pre .0 .inner) (t .take .ensures) (y .symbol-at .ensures) (s .pre .1 .least) _ _ (w .with-symbol .ensures)
+    picked _ _ _ _ _ _ _ _ _ _ (s .pre .0 .inner) (took (s .pre .0 .rows) (t .take .ensures .0) (t .take .ensures .1)) (y .symbol-at .ensures) (s .pre .1 .least) _ _ (w .with-symbol .ensures)
     (c .larger .ensures ∙ ap (λ (x : ℕ). max x (s .args .node .chosen)) (c .before .stream-reach .ensures))))

@@ -1,8 +1,12 @@
 -- The walk from the root keeps what the model's search keeps, and the soft values are written from its minima.
-use mathlib.Core.Path.{_≡_, refl}
+use mathlib.Core.Path.{_≡_, refl, sym, subst}
+use mathlib.Core.List.{List}
 use borrow.Author.Needs.{needs}
 use native.Mathlib.Nat.{le-trans}
+use lib.IntN.{ℤ}
 use Rattle.model.specs.Block.{mostBits}
+use Rattle.metric.specs.Tables.{Tabled}
+use Rattle.metric.proofs.Tables.{rows-tabled}
 use Rattle.pruning.specs.Program.{keptOf, takenIn, fresh, below}
 use Rattle.search.specs.Limits.{vectorFor}
 use Rattle.search.proofs.Values.{keys-many, root-asked, end-low, end-answered}
@@ -13,7 +17,13 @@ begin-requires : tie.Need-begin-requires
 begin-requires c κs =
     let p = c .before .before .before in
     let s = p .before .before .before in
-    (root-asked (s .pre .0) _ (le-trans (keys-many (s .pre .0)) (s .pre .2)), s .pre .0 .stream, refl, p .prepare .ensures, refl, s .pre .3)
+    let v = s .pre .0 .vector in
+    let m = s .args .task .streams in
+    let q = s .args .task .width in
+    let tabled =
+    subst (λ (l : List ℤ). Tabled m q (s .args .numbers .now) l) (sym (p .prepare .ensures))
+    (rows-tabled m q (s .args .numbers .now) _ (v .bits) refl m (v .streams)) in
+    (root-asked (s .pre .0) _ (le-trans (keys-many (s .pre .0)) (s .pre .2)), s .pre .0 .stream, refl, tabled, refl, s .pre .3)
 
 -- What the walk has kept, from nothing
 walked : (c : tie.After-begin)

@@ -9,7 +9,7 @@ use Rattle.metric.specs.Parts.{axisWidth, span}
 use Rattle.metric.proofs.Shifts.{one-shifted}
 use Rattle.metric.proofs.Filled.{from-length}
 use Rattle.metric.proofs.Pass.{pass-length}
-use Rattle.siblings.proofs.Filling.{placed}
+use Rattle.siblings.proofs.Filling.{keys-in}
 use Rattle.siblings.proofs.fill.Statement.{statement}
 use Rattle.siblings.proofs.fill.Tie as tie
 
@@ -63,7 +63,7 @@ returns c =
     let s = f .before .before .before .before .before .before .before in
     let q = s .args .q in
     let h = s .pre .0 in
-    placed q _ _ _ (s .args .partial) (s .args .axes .now) (s .args .keys .now) _ _ _ (f .least-first .result) (s .pre .4)
+    keys-in q _ _ _ (s .args .partial) (s .args .axes .now) (s .args .keys .now) _ _ _ (f .least-first .result)
     (one-shifted q (omega arith)) (one-shifted (q / 2) (omega arith)) (one-shifted (q - q / 2) (omega arith))
     (f .least-first .ensures .0) (f .before .before .before .before .fill-children .ensures) (l .fill-least .ensures) (k .fill-columns .ensures)
 

@@ -10,7 +10,7 @@ use Rattle.metric.proofs.Grid.{row-room}
 use Rattle.pruning.specs.Program.{mostChildren}
 use Rattle.pruning.proofs.Arrays.{least-below}
 use Rattle.siblings.specs.Rows.{rowCount, columnCount}
-use Rattle.siblings.proofs.Taking.{took}
+use Rattle.siblings.proofs.Taking.{taken}
 use Rattle.siblings.proofs.take.Statement.{statement}
 use Rattle.siblings.proofs.take.Tie as tie
 
@@ -45,7 +45,7 @@ returns c =
     let l = c .before in
     let s = l .before .before .before .before in
     let q = s .args .q in
-    took q _ _ _ (s .args .keys .now) (s .args .row) _ (l .least-first .result)
+    taken q _ _ _ (s .args .keys .now) (s .args .row) _ (l .least-first .result)
     (one-shifted q (omega (arith, s .pre .0))) (one-shifted (q / 2) (omega (arith, s .pre .0))) (one-shifted (q - q / 2) (omega (arith, s .pre .0)))
     (s .pre .1) (s .pre .2) refl (l .least-first .ensures .0)
 
