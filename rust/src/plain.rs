@@ -167,7 +167,7 @@ fn least(leaves: &[Leaf], mask: usize, is_one: bool) -> Option<i64> {
 }
 
 /// Least metric with the bit 1, less the least with it 0, less the prior, clipped; an empty side is infinite.
-pub fn soft_value(leaves: &[Leaf], mask: usize, prior: i64, clip: i64) -> i64 {
+fn soft_value(leaves: &[Leaf], mask: usize, prior: i64, clip: i64) -> i64 {
     match (least(leaves, mask, true), least(leaves, mask, false)) {
         (Some(one), Some(zero)) => (one - zero - prior).clamp(-clip, clip),
         (None, _) => clip,

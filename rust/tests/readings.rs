@@ -1,8 +1,7 @@
 //! Document 01's bench readings, edges and listing, run through both detectors.
 
-use reference::plain::{soft_value, Leaf};
 use reference::record::{encode, fold, plain as group, unfold};
-use reference::{fast, plain};
+use reference::{eq_31, exhaustive, fast, plain};
 
 type Detector = fn(&[u8], &mut [u8]) -> i64;
 
@@ -68,7 +67,7 @@ fn the_four_starred_readings_of_two_streams() {
 #[test]
 fn the_metrics_of_the_two_stream_vector() {
     let block = reference::block::Block::of(&[[2, 1, 1, 10, 5].as_slice(), &BENCH].concat());
-    let metrics = [0, 1, 2, 3].map(|label| reference::exhaustive::metric(&block, &block.vectors[0], label));
+    let metrics = [0, 1, 2, 3].map(|label| exhaustive::metric(&block, &block.vectors[0], label));
     assert_eq!(metrics, [9, 5, 1, 5]);
 }
 
@@ -97,11 +96,16 @@ fn the_listing_record() {
     refuses(&[record.as_slice(), &[0]].concat(), 0, 13);
 }
 
-/// "What the pruning papers invite": leaves 10, 12, 8, 6, the bit opposite only in 12, its prior 10 for the best one's bit, C = 3.
+/// The first of "What the pruning papers invite", by a record that comes to its four leaves.
 #[test]
 fn a_clip_at_each_new_best_leaf_would_be_wrong() {
-    let leaves = [(0, 10), (8, 12), (1, 8), (2, 6)].map(|(label, metric)| Leaf { label, metric });
-    assert_eq!(soft_value(&leaves, 8, 10, 3), -3);
+    let block = eq_31::block(10);
+    for (label, metric) in eq_31::METRICS.into_iter().enumerate() {
+        assert_eq!(exhaustive::metric(&block, &block.vectors[0], label), metric);
+    }
+    for (block, answer) in eq_31::cases() {
+        answers(&block.record(), block.buffer_bound(), &plain::reply_bytes(&block, &[answer]));
+    }
 }
 
 /// Document 02, Point 1: 15 when Q is 8 and M is 4, after 5 and before anything of N; Q = 8 itself is accepted.

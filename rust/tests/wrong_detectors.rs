@@ -4,6 +4,7 @@
 //! `trials`; with any slip some record tells.
 
 use reference::block::{Block, Complex, Vector};
+use reference::eq_31;
 use reference::plain::{self, Answer, Leaf};
 use reference::record::{check_width, read, read_by, Numbers, Refusal};
 use reference::trials;
@@ -382,20 +383,15 @@ fn every_exchange_of_neighbouring_points_is_seen() {
     }
 }
 
-/// Document 01's example for eq. 31: leaves 10, 12, 8, 6, the bit opposite only in 12, its prior 10 for the best one's bit, C = 3. The
-/// list of 000 then says -1; the right value is -3.
+/// Document 01's example for eq. 31: the walk is the right one, and only the value of the bit is wrong, -1 in place of -3.
 #[test]
 fn clipping_from_below_says_what_document_01_says_it_does() {
-    let value = |slip: Slip| {
-        let vector = Vector { matrix: vec![], received: vec![], priors: vec![10, 0, 0, 0] };
-        let block = Block { streams: 1, bits: 4, clip: 3, share: 1, vectors: vec![] };
-        let best = Leaf { label: 0, metric: INFINITE };
-        let extrinsic = vec![INFINITE; 4];
-        let mut walk = Walk { slip, block: &block, vector: &vector, allowance: 1, nodes: 0, stopped: false, best, extrinsic };
-        for (label, metric) in [(0, 10), (8, 12), (1, 8), (2, 6)] {
-            walk.take_leaf(Leaf { label, metric });
+    for (block, answer) in eq_31::cases() {
+        let mut wrong = answer.clone();
+        if !wrong.stopped {
+            wrong.values[0] = -1;
         }
-        walk.soft_value(0)
-    };
-    assert_eq!((value(ClipFromBelow), value(Clean)), (-1, -3));
+        assert_eq!(answers(Clean, &block), [answer]);
+        assert_eq!(answers(ClipFromBelow, &block), [wrong]);
+    }
 }

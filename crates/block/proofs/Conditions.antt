@@ -11,9 +11,10 @@ use lib.Dec.{ltb}
 use lib.ListN.{length, getD, take, drop}
 use lib.Seq.{take-all, split-at}
 use lib.IntN.{ℤ, pos}
-use Rattle.wire.specs.Reading.{numberAt, Sound}
+use Rattle.wire.specs.Reading.{numberAt, numberRefusal, Sound}
 use Rattle.wire.specs.declared.Number.{Number}
 use Rattle.wire.specs.declared.Number.the-variants.{Value, Short, Malformed as NoNumber}
+use Rattle.wire.proofs.Reading.{is-short, is-malformed}
 use Rattle.wire.proofs.RoundTrip.{read-sound}
 use Rattle.model.specs.Block.{InRange, widths}
 use Rattle.block.specs.Table.{oneOf, crowded, allowed, refusalOf}
@@ -168,8 +169,8 @@ by-number bytes k at r next e = go (numberAt bytes at) refl e
 
     go : (x : Number) → numberAt bytes at ≡ x → byNumber k x ≡ Turned r → TurnedBack bytes r
     go (Value n after) f g = ranged n after f (allowed k (wholeOf k n)) refl g
-    go Short f g = let same : Ends ≡ r = cc in subst (TurnedBack bytes) same (k, at, next, f)
-    go NoNumber f g = let same : Malformed ≡ r = cc in subst (TurnedBack bytes) same (k, at, next, f)
+    go Short f g = let same : Ends ≡ r = cc in subst (TurnedBack bytes) same (k, at, next, ap numberRefusal f)
+    go NoNumber f g = let same : Malformed ≡ r = cc in subst (TurnedBack bytes) same (k, at, next, ap numberRefusal f)
 
 -- A refused record meets its refusal's condition
 refused-by : (bytes : List ℕ) (r : Refusal) → readWhole bytes .read ≡ Refused r → TurnedBack bytes r
@@ -208,8 +209,9 @@ range-refused bytes k o = is-refused bytes k o (o .holds)
 refused-of : (bytes : List ℕ) (r : Refusal) → TurnedBack bytes r → readWhole bytes .read ≡ Refused r
 unfolding readWhole readRecord byNumber
 refused-of bytes Opening f = rw f
-refused-of bytes Ends t = next-is bytes (t .0) (t .1) Ends (t .2) (ap (byNumber (t .0)) (t .3))
-refused-of bytes Malformed t = next-is bytes (t .0) (t .1) Malformed (t .2) (ap (byNumber (t .0)) (t .3))
+refused-of bytes Ends t = next-is bytes (t .0) (t .1) Ends (t .2) (ap (byNumber (t .0)) (is-short (numberAt bytes (t .1)) (t .3)))
+refused-of bytes Malformed t =
+    next-is bytes (t .0) (t .1) Malformed (t .2) (ap (byNumber (t .0)) (is-malformed (numberAt bytes (t .1)) (t .3)))
 refused-of bytes Streams o = range-refused bytes StreamCount o
 refused-of bytes Width t =
     let width = t .1 .holds in rw width at (is-refused bytes (SymbolWidth (t .0)) (t .1) (rw width))

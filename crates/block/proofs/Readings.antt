@@ -15,9 +15,9 @@ use Rattle.block.specs.Contents.{complexes, rowsFrom, rowsOf, blockOf}
 abbrev c : ℤ → ℤ → Complex
 c a b = record { re = a; im = b }
 
--- "43 42 52 31 02 01 02 0A 03, then twice 01 02 00 01 02 00 01 00 00 00"
-abbrev listing : List ℕ
-listing =
+-- Document 01's listing record: "43 42 52 31 02 01 02 0A 03, then twice 01 02 00 01 02 00 01 00 00 00"
+abbrev pub listingRecord : List ℕ
+listingRecord =
     0x43 ∷ 0x42 ∷ 0x52 ∷ 0x31 ∷ 0x02 ∷ 0x01 ∷ 0x02 ∷ 0x0A ∷ 0x03 ∷ 0x01 ∷ 0x02 ∷ 0x00 ∷ 0x01 ∷ 0x02 ∷ 0x00 ∷ 0x01 ∷ 0x00 ∷ 0x00 ∷ 0x00
     ∷ 0x01 ∷ 0x02 ∷ 0x00 ∷ 0x01 ∷ 0x02 ∷ 0x00 ∷ 0x01 ∷ 0x00 ∷ 0x00 ∷ 0x00 ∷ []
 
@@ -29,7 +29,7 @@ rows =
     ∷ []
 
 -- The listing record says this block
-pub listing-block : blockOf (readRecord listing .numbers)
+pub listing-block : blockOf (readRecord listingRecord .numbers)
     ≡ record { streams = 2; width = 1; clip = 10; share = 3; vectors = rows ∷ rows ∷ [] }
 unfolding blockOf readRecord recordAt sizedAt vectorsAt numbersAt kindsOf runsOf matrixRuns byNumber numberAt groups above
     lastGroup unfolded startsWith rowsOf rowsFrom complexes upFrom

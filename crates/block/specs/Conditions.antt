@@ -7,9 +7,9 @@ use lib.Dec.{ltb}
 use lib.ListN.{length, getD, take}
 use lib.IntN.{ℤ, pos}
 use Rattle.model.specs.Block.{widths}
-use Rattle.wire.specs.Reading.{numberAt}
-use Rattle.wire.specs.declared.Number.the-variants.{Value, Short, Malformed as NoNumber}
-use Rattle.block.specs.Table.{oneOf, allowed}
+use Rattle.wire.specs.Reading.{numberAt, numberRefusal}
+use Rattle.wire.specs.declared.Number.the-variants.{Value}
+use Rattle.block.specs.Table.{refusalNumber, oneOf, allowed}
 use Rattle.block.specs.Reading.{wholeOf, numbersAt, kindsOf, runsOf, countAt, opening, startsWith}
 use Rattle.block.specs.Contents.{vectorKinds}
 use Rattle.block.specs.declared.Kind.{Kind}
@@ -53,6 +53,10 @@ pub record NextIs (bytes : List ℕ) (k : Kind) (Holds : ℤ → Type 0) : Type 
 abbrev pub OutOfRange : List ℕ → Kind → Type 0
 OutOfRange bytes k = NextIs bytes k (λ (z : ℤ). allowed k z ≡ false)
 
+-- or no number can be read there, by one of the two refusals of "any number"
+abbrev pub Unreadable : List ℕ → ℕ → Type 0
+Unreadable bytes refusal = (k : Kind) × (at : ℕ) × Next bytes k at × (numberRefusal (numberAt bytes at) ≡ refusal)
+
 -- or all numbers are passed
 pub record Whole (bytes : List ℕ) (at : ℕ) : Type 0 where
   pub numbers : List ℤ
@@ -64,9 +68,9 @@ abbrev pub TurnedBack : List ℕ → Refusal → Type 0
 -- "first four bytes missing or different"
 TurnedBack bytes Opening = startsWith opening bytes ≡ false
 -- "record ends before its last group"
-TurnedBack bytes Ends = (k : Kind) × (at : ℕ) × Next bytes k at × (numberAt bytes at ≡ Short)
+TurnedBack bytes Ends = Unreadable bytes (refusalNumber Ends)
 -- "four groups all with the high bit, or a last group of 0 after another"
-TurnedBack bytes Malformed = (k : Kind) × (at : ℕ) × Next bytes k at × (numberAt bytes at ≡ NoNumber)
+TurnedBack bytes Malformed = Unreadable bytes (refusalNumber Malformed)
 -- "not 1 to 4"
 TurnedBack bytes Streams = OutOfRange bytes StreamCount
 -- "not 1, 2, 4, 6", nor document 02's 8, whatever M is

@@ -1,18 +1,18 @@
--- The user's demands, of every record and every buffer: a call refuses exactly under the table's conditions, and a reply meets demands 2
--- and 3.
-use Prim.Native.Nat.{ℕ, zero, suc, _+_, _-_, _<_}
+-- The user's demands, of every record and every buffer: a call refuses exactly under the table's conditions, and the bytes of a reply say
+-- answers that meet demands 2 and 3. The theorem to read is `demands`.
+use Prim.Native.Nat.{ℕ, zero, suc, _+_, _-_, _≤_, _<_}
 use mathlib.Core.Path.{_≡_, refl, sym, _∙_, ap}
-use mathlib.Core.Bool.{Bool, true, false, cond, true≢false}
+use mathlib.Core.Bool.{Bool, true, false, cond}
 use mathlib.Core.Logic.{_↔_, _⊎_, inl, inr}
 use mathlib.Core.List.{List, [], _∷_}
 use native.Mathlib.Omega.{arith}
-use borrow.Author.Tests.{ltb-true}
+use borrow.Author.Tests.{ltb-true, ltb-false}
 use lib.Dec.{ltb}
-use lib.ListN.{length, getD}
+use lib.ListN.{length, getD, take, drop}
 use lib.IntN.{ℤ, pos, negsuc, negℤ}
 use Rattle.model.specs.Metric.{Row}
 use Rattle.model.specs.Block.{Block, vectorOf, Answer, answers}
-use Rattle.model.specs.Demand.{Demand2, ResultsFrom}
+use Rattle.model.specs.Demand.{Demand2, Demand3, ResultsFrom}
 use Rattle.model.proofs.Demand.{demand3 as answers-meet}
 use Rattle.model.proofs.Bounds.{shaped}
 use Rattle.block.specs.Reading.{readRecord, readWhole}
@@ -30,6 +30,8 @@ use Rattle.block.specs.Table.{refusalNumber}
 use Rattle.detector.specs.Outcome.{byRoom, byRead, outcome}
 use Rattle.detector.specs.Demand.{Condition, Accepted, nthAnswer, EachComplete, Met}
 use Rattle.detector.proofs.Outcomes.{room-short}
+use Rattle.detector.proofs.Replies.{reply-room}
+use Rattle.detector.proofs.ReadBack.{read-back}
 
 module _ (room : ℕ) (b : Block) where
   -- A block's refusal is the buffer's, which is too short
@@ -42,14 +44,15 @@ module _ (room : ℕ) (b : Block) where
       go true f g = (cc, ltb-true room (replyRoom b) f)
       go false f g = absurd (not-both g refl)
 
-  -- A block's reply is its own
-  room-filled : (reply : List ℕ) → byRoom room b ≡ filled reply → reply ≡ replyOf b
+  -- A block's reply is its own, and there is the room that is asked for
+  room-filled : (reply : List ℕ) → byRoom room b ≡ filled reply → (reply ≡ replyOf b) × (replyRoom b ≤ room)
   unfolding byRoom
-  room-filled reply e = go (ltb room (replyRoom b)) e
+  room-filled reply e = go (ltb room (replyRoom b)) refl e
     where
-      go : (t : Bool) → cond t (refused Buffer) (filled (replyOf b)) ≡ filled reply → reply ≡ replyOf b
-      go true f = absurd (not-both refl f)
-      go false f = cc
+      go : (t : Bool) → ltb room (replyRoom b) ≡ t → cond t (refused Buffer) (filled (replyOf b)) ≡ filled reply
+          → (reply ≡ replyOf b) × (replyRoom b ≤ room)
+      go true f g = absurd (not-both refl g)
+      go false f g = (cc, ltb-false room (replyRoom b) f)
 
 module _ (bytes : List ℕ) (room : ℕ) where
   -- A record that is turned back is refused
@@ -102,22 +105,6 @@ demand1-accepted bytes room = (λ t r c. not-both (demand1 bytes room r .1 c) (t
     go (refused r) e none = absurd (none r (demand1 bytes room r .0 e))
     go (filled reply) e none = (reply, e)
 
--- Demand 3: a reply is that of a whole record's block in range, whose answers meet the model's demand 3
-pub demand3 : (bytes : List ℕ) (room : ℕ) (reply : List ℕ) → outcome bytes room ≡ filled reply → Accepted bytes reply
-demand3 bytes room reply e = go (one-of-two bytes room)
-  where
-    go : ((r : Refusal) × (readWhole bytes .read ≡ Refused r)) ⊎ Whole bytes (length bytes) → Accepted bytes reply
-    go (inl t) = absurd (not-both (turned-outcome bytes room (t .0) (t .1)) e)
-    go (inr w) =
-        let b = blockOf (w .numbers) in
-        let ranged = whole-in-range bytes (length bytes) w in
-        record {
-          whole = w;
-          ranged = ranged;
-          reply-is = room-filled room b reply (sym (whole-outcome bytes room w) ∙ e);
-          demand3 = answers-meet b (shaped b ranged);
-        }
-
 -- As many answers as vectors
 results-many : (b : Block) (spent : ℕ) (vs : List (List Row)) (found : List Answer) → ResultsFrom b spent vs found
     → length found ≡ length vs
@@ -135,43 +122,47 @@ results-exact b spent (rows ∷ later) (a ∷ rest) r zero h e = r .0 .1 .exact 
 results-exact b spent (rows ∷ later) (a ∷ rest) r (suc k) h e =
     results-exact b (spent + a .count) later rest (r .1) k (omega arith) e
 
--- Demand 2, of each vector of an accepted record that is marked complete
-pub demand2 : (bytes : List ℕ) (reply : List ℕ) (a : Accepted bytes reply)
-    → let b = blockOf (a .whole .numbers) in EachComplete b (answers b)
-demand2 bytes reply a =
-    let b = blockOf (a .whole .numbers) in
-    let each = a .demand3 .each in
-    record { many = results-many b 0 (b .vectors) (answers b) each; exact = results-exact b 0 (b .vectors) (answers b) each }
+-- Demand 2, of each vector that is marked complete, follows from demand 3
+pub demand2 : (b : Block) (found : List Answer) → Demand3 b found → EachComplete b found
+demand2 b found d = record {
+  many = results-many b 0 (b .vectors) found (d .each);
+  exact = results-exact b 0 (b .vectors) found (d .each);
+}
 
--- What the contract of the exported function promises of the returned number and the buffer afterwards meets the demands
-pub demands : (bytes buffer : List ℕ) (number : ℤ) (after : List ℕ) → number ≡ returned (outcome bytes (length buffer))
-    → after ≡ bufferAfter (outcome bytes (length buffer)) buffer → Met bytes buffer number after
-demands bytes buffer number after n a = go (outcome bytes (length buffer)) refl n a
+-- Demand 3: a reply, which there is room for, says the answers to a whole record's block in range, and these meet the model's demand 3
+pub demand3 : (bytes : List ℕ) (room : ℕ) (reply : List ℕ) → outcome bytes room ≡ filled reply
+    → Accepted bytes reply × (length reply ≤ room)
+demand3 bytes room reply e = go (one-of-two bytes room)
   where
-    go : (o : Filling ℕ) → outcome bytes (length buffer) ≡ o → number ≡ returned o → after ≡ bufferAfter o buffer → Met bytes buffer number after
-    go (refused r) e n a = inl (record { refusal = r; number-is = n; condition = demand1 bytes (length buffer) r .0 e; untouched = a })
-    go (filled reply) e n a =
-        let acc = demand3 bytes (length buffer) reply e in
-        inr (record {
-          reply = reply;
-          number-is = n;
-          none = λ r c. not-both (demand1 bytes (length buffer) r .1 c) e;
-          stands = a;
-          accepted = acc;
-          complete = demand2 bytes reply acc;
-        })
+    go : ((r : Refusal) × (readWhole bytes .read ≡ Refused r)) ⊎ Whole bytes (length bytes) → Accepted bytes reply × (length reply ≤ room)
+    go (inl t) = absurd (not-both (turned-outcome bytes room (t .0) (t .1)) e)
+    go (inr w) =
+        let b = blockOf (w .numbers) in
+        let ranged = whole-in-range bytes (length bytes) w in
+        let filled-by = room-filled room b reply (sym (whole-outcome bytes room w) ∙ e) in
+        let meets = answers-meet b (shaped b ranged) in (
+          record {
+            whole = w;
+            ranged = ranged;
+            found = answers b;
+            reads = rw (filled-by .0) (read-back b ranged);
+            demand3 = meets;
+            demand2 = demand2 b (answers b) meets;
+          },
+          omega (arith, ap length (filled-by .0), reply-room b ranged, filled-by .1),
+        )
 
 -- The refusals in the order of their numbers
 refusals : List Refusal
 refusals =
     Opening ∷ Ends ∷ Malformed ∷ Streams ∷ Width ∷ Vectors ∷ Clip ∷ Share ∷ Diagonal ∷ Entry ∷ Received ∷ Prior ∷ Trailing ∷ Buffer ∷ Crowded ∷ []
 
--- The refusal that a returned number tells
-abbrev toldBy : ℤ → Refusal
-toldBy (pos n) = Opening
-toldBy (negsuc n) = getD refusals n Opening
+-- The refusal that a returned number tells, if it does
+abbrev toldBy : ℤ → List Refusal
+toldBy (pos n) = []
+toldBy (negsuc n) = take 1 (drop n refusals)
 
-told : (r : Refusal) → toldBy (negℤ (pos (refusalNumber r))) ≡ r
+told : (r : Refusal) → toldBy (negℤ (pos (refusalNumber r))) ≡ r ∷ []
 unfolding refusals
 told Opening = refl
 told Ends = refl
@@ -191,29 +182,7 @@ told Crowded = refl
 
 -- Different refusals have different numbers, so that the returned number tells which it is
 pub number-tells : (r s : Refusal) → negℤ (pos (refusalNumber r)) ≡ negℤ (pos (refusalNumber s)) → r ≡ s
-number-tells r s e = sym (told r) ∙ ap toldBy e ∙ told s
-
--- Is a number below 0?
-abbrev isNegative : ℤ → Bool
-isNegative (pos n) = false
-isNegative (negsuc n) = true
-
-negative : (r : Refusal) → isNegative (negℤ (pos (refusalNumber r))) ≡ true
-negative Opening = refl
-negative Ends = refl
-negative Malformed = refl
-negative Streams = refl
-negative Width = refl
-negative Vectors = refl
-negative Clip = refl
-negative Share = refl
-negative Diagonal = refl
-negative Entry = refl
-negative Received = refl
-negative Prior = refl
-negative Trailing = refl
-negative Buffer = refl
-negative Crowded = refl
+number-tells r s e = let same = sym (told r) ∙ ap toldBy e ∙ told s in cc
 
 -- The returned number is minus a row's number exactly where the row's condition holds
 pub demand1-number : (bytes : List ℕ) (room : ℕ) (r : Refusal)
@@ -222,4 +191,31 @@ demand1-number bytes room r = (λ e. demand1 bytes room r .0 (go (outcome bytes 
   where
     go : (o : Filling ℕ) → returned o ≡ negℤ (pos (refusalNumber r)) → o ≡ refused r
     go (refused s) e = ap refused (number-tells s r e)
-    go (filled reply) e = absurd (true≢false (sym (negative r) ∙ ap isNegative (sym e)))
+    go (filled reply) e = absurd (omega (arith, ap length (ap toldBy e ∙ told r)))
+
+-- ONE THEOREM: whatever the record and the buffer, what the contract of the exported function promises of the returned number and of the
+-- buffer afterwards meets the user's demands
+pub demands : (bytes buffer : List ℕ) (number : ℤ) (after : List ℕ) → number ≡ returned (outcome bytes (length buffer))
+    → after ≡ bufferAfter (outcome bytes (length buffer)) buffer → Met bytes buffer number after
+demands bytes buffer number after n a = go (outcome bytes (length buffer)) refl n a
+  where
+    go : (o : Filling ℕ) → outcome bytes (length buffer) ≡ o → number ≡ returned o → after ≡ bufferAfter o buffer → Met bytes buffer number after
+    go (refused r) e n a =
+        inl (record {
+          refusal = r;
+          number-is = n;
+          tells = λ s f. number-tells s r (sym f ∙ n);
+          condition = demand1 bytes (length buffer) r .0 e;
+          alone = λ s c. let other = demand1 bytes (length buffer) s .1 c in cc;
+          untouched = a;
+        })
+    go (filled reply) e n a =
+        let met = demand3 bytes (length buffer) reply e in
+        inr (record {
+          none = λ r c. not-both (demand1 bytes (length buffer) r .1 c) e;
+          reply = reply;
+          number-is = n;
+          fits = met .1;
+          stands = a;
+          accepted = met .0;
+        })

@@ -1,6 +1,6 @@
 -- Demand 1, from document 01, "Where a record is turned back": the conditions under which a call refuses; where none holds, it accepts.
--- Demands 2 and 3, of what an accepted record is answered with.
-use Prim.Native.Nat.{ℕ, _<_}
+-- Demands 2 and 3, of what the bytes of its reply say.
+use Prim.Native.Nat.{ℕ, _≤_, _<_}
 use mathlib.Core.Path.{_≡_}
 use mathlib.Core.Bool.{false}
 use mathlib.Core.Logic.{_⊎_}
@@ -8,14 +8,15 @@ use mathlib.Core.List.{List, [], _++_}
 use lib.IntN.{ℤ, pos, negℤ}
 use lib.ListN.{length, getD, drop}
 use Rattle.model.specs.Metric.{Vector}
-use Rattle.model.specs.Block.{Block, vectorOf, Answer, answers, InRange}
+use Rattle.model.specs.Block.{Block, vectorOf, Answer, InRange}
 use Rattle.model.specs.Demand.{Demand2, Demand3}
 use Rattle.block.specs.Contents.{blockOf}
 use Rattle.block.specs.Conditions.{Whole, TurnedBack}
 use Rattle.block.specs.Table.{refusalNumber}
 use Rattle.block.specs.declared.Refusal.{Refusal}
 use Rattle.block.specs.declared.Refusal.the-variants.{Buffer}
-use Rattle.detector.specs.Reply.{replyOf, replyRoom}
+use Rattle.detector.specs.Reply.{replyRoom}
+use Rattle.detector.specs.ReadBack.{readBack, saying}
 
 -- The table's last row: the record is whole, and the buffer "shorter than 7 + N × (9 + 4 × M × Q)"
 pub record TooShort (bytes : List ℕ) (room : ℕ) : Type 0 where
@@ -25,14 +26,6 @@ pub record TooShort (bytes : List ℕ) (room : ℕ) : Type 0 where
 -- The table's condition for a refusal
 abbrev pub Condition : List ℕ → ℕ → Refusal → Type 0
 Condition bytes room r = TurnedBack bytes r ⊎ ((r ≡ Buffer) × TooShort bytes room)
-
--- An accepted record: all its numbers are passed, the block that they say is in range, the reply is that block's, and demand 3 holds of the
--- answers that the reply is written from
-pub record Accepted (bytes : List ℕ) (reply : List ℕ) : Type 0 where
-  pub whole : Whole bytes (length bytes)
-  pub ranged : InRange (blockOf (whole .numbers))
-  pub reply-is : reply ≡ replyOf (blockOf (whole .numbers))
-  pub demand3 : Demand3 (blockOf (whole .numbers)) (answers (blockOf (whole .numbers)))
 
 -- Vector k of a block, from 0
 abbrev pub nthVector : Block → ℕ → Vector
@@ -52,21 +45,33 @@ pub record EachComplete (b : Block) (found : List Answer) : Type 0 where
   pub many : length found ≡ length (b .vectors)
   pub exact : (k : ℕ) → k < length (b .vectors) → nthAnswer found k .stopped ≡ false → Demand2 (nthVector b k) (nthAnswer found k .result)
 
--- A call that was refused: by the table's number, whose condition holds, over an untouched buffer
+-- A call that was refused: by the number of the one row whose condition holds, over an untouched buffer. The number tells the row
 pub record Refusing (bytes buffer : List ℕ) (number : ℤ) (after : List ℕ) : Type 0 where
   pub refusal : Refusal
   pub number-is : number ≡ negℤ (pos (refusalNumber refusal))
+  pub tells : (r : Refusal) → number ≡ negℤ (pos (refusalNumber r)) → r ≡ refusal
   pub condition : Condition bytes (length buffer) refusal
+  pub alone : (r : Refusal) → Condition bytes (length buffer) r → r ≡ refusal
   pub untouched : after ≡ buffer
 
--- A call that was accepted: no condition holds, the reply stands in front, every other byte is as it was, and demands 2 and 3 hold
+-- An accepted record and its reply: all numbers of the record are passed, and they say a block in range; the reply's bytes, read back, say
+-- that block's M, Q and N and, to their end, the answers that were found; and of these demands 2 and 3 hold
+pub record Accepted (bytes reply : List ℕ) : Type 0 where
+  pub whole : Whole bytes (length bytes)
+  pub ranged : InRange (blockOf (whole .numbers))
+  pub found : List Answer
+  pub reads : readBack reply ≡ saying (blockOf (whole .numbers)) found (length reply)
+  pub demand3 : Demand3 (blockOf (whole .numbers)) found
+  pub demand2 : EachComplete (blockOf (whole .numbers)) found
+
+-- A call that was accepted: no row's condition holds, the reply stands in front of the buffer, and every other byte is as it was
 pub record Replying (bytes buffer : List ℕ) (number : ℤ) (after : List ℕ) : Type 0 where
+  pub none : (r : Refusal) → Condition bytes (length buffer) r → ⊥
   pub reply : List ℕ
   pub number-is : number ≡ pos (length reply)
-  pub none : (r : Refusal) → Condition bytes (length buffer) r → ⊥
+  pub fits : length reply ≤ length buffer
   pub stands : after ≡ reply ++ drop (length reply) buffer
   pub accepted : Accepted bytes reply
-  pub complete : let b = blockOf (accepted .whole .numbers) in EachComplete b (answers b)
 
 -- The user's demands, of a record, a buffer, the returned number and the buffer afterwards
 abbrev pub Met : List ℕ → List ℕ → ℤ → List ℕ → Type 0

@@ -1,4 +1,5 @@
 pub mod Reply
+pub mod ReadBack
 pub mod Outcome
 pub mod Demand
 pub mod Steps

@@ -19,13 +19,14 @@ use Rattle.search.proofs.Records.{sums, vector-end}
 use Rattle.detector.specs.Reply.{answerNumbers}
 use Rattle.detector.specs.Steps.{allowanceAt, answerAt}
 use Rattle.detector.proofs.Replies.{soft-count}
-use Rattle.listing.specs.Text.{vectorLine, answerFrom}
+use Rattle.detector.specs.ReadBack.{answerFrom}
+use Rattle.detector.proofs.ReadBack.{answer-told}
+use Rattle.listing.specs.Text.{vectorLine}
 use Rattle.listing.specs.Replied.{numbersFrom, placeAfter, VectorAsked, Listed}
 use Rattle.listing.specs.Steps.{Sized, NumberedAsked, Numbered}
 use Rattle.listing.specs.declared.Sizes.{Sizes}
 use Rattle.listing.specs.declared.Progress.{Progress}
 use Rattle.listing.proofs.Pieces.{wrote-same}
-use Rattle.listing.proofs.Replied.{answer-told}
 
 -- Of n + m numbers the last m
 last-part : (n m : ℕ) (l : List ℤ) → n + m ≤ length l → drop n (take (n + m) l) ≡ take m (drop n l)

@@ -14,6 +14,7 @@ use Rattle.wire.specs.Folding.{unfolded}
 use Rattle.block.specs.Reading.{byNumber, numbersAt, kindsOf, runsOf, matrixRuns, vectorsAt, sizedAt, recordAt, startsWith}
 use Rattle.block.specs.Reading.{readRecord, readWhole}
 use Rattle.block.specs.Contents.{complexes, rowsFrom, rowsOf, blockOf}
+use Rattle.block.proofs.Readings.{listingRecord}
 use Rattle.listing.specs.Against.{againstIn, against}
 use Rattle.listing.specs.Text.{decimals, decimalOf, field, valueText, softText, headLine, vectorLine, linesFrom, totalLine}
 use Rattle.listing.specs.Text.{blockText, listingOf}
@@ -23,14 +24,8 @@ pub against-reading : against (pos 5 ∷ negsuc 2 ∷ pos 0 ∷ negsuc 1 ∷ [])
 unfolding againstIn bitsOf
 against-reading = refl
 
--- "43 42 52 31 02 01 02 0A 03, then twice 01 02 00 01 02 00 01 00 00 00"
-abbrev bytes : List ℕ
-bytes =
-    0x43 ∷ 0x42 ∷ 0x52 ∷ 0x31 ∷ 0x02 ∷ 0x01 ∷ 0x02 ∷ 0x0A ∷ 0x03 ∷ 0x01 ∷ 0x02 ∷ 0x00 ∷ 0x01 ∷ 0x02 ∷ 0x00 ∷ 0x01 ∷ 0x00 ∷ 0x00 ∷ 0x00
-    ∷ 0x01 ∷ 0x02 ∷ 0x00 ∷ 0x01 ∷ 0x02 ∷ 0x00 ∷ 0x01 ∷ 0x00 ∷ 0x00 ∷ 0x00 ∷ []
-
--- All that is printed of it
-pub listing-reading : listingOf bytes
+-- All that is printed of document 01's record
+pub listing-reading : listingOf listingRecord
     ≡ 115 ∷ 116 ∷ 114 ∷ 101 ∷ 97 ∷ 109 ∷ 115 ∷ 32 ∷ 50 ∷ 32 ∷ 98 ∷ 105 ∷ 116 ∷ 115 ∷ 32 ∷ 49 ∷ 32 ∷ 118 ∷ 101 ∷ 99 ∷ 116 ∷ 111 ∷ 114
     ∷ 115 ∷ 32 ∷ 50 ∷ 32 ∷ 99 ∷ 108 ∷ 105 ∷ 112 ∷ 32 ∷ 49 ∷ 48 ∷ 32 ∷ 115 ∷ 104 ∷ 97 ∷ 114 ∷ 101 ∷ 32 ∷ 51 ∷ 10
     ∷ 49 ∷ 32 ∷ 115 ∷ 116 ∷ 111 ∷ 112 ∷ 112 ∷ 101 ∷ 100 ∷ 32 ∷ 52 ∷ 32 ∷ 50 ∷ 32 ∷ 48 ∷ 32 ∷ 45 ∷ 56 ∷ 32 ∷ 49 ∷ 48 ∷ 10

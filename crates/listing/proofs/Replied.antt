@@ -1,24 +1,18 @@
--- Reading a reply gives back its numbers, and these the answers.
+-- Reading a reply gives back its numbers.
 use Prim.Native.Nat.{ℕ, zero, suc, _+_, _-_, _≤_, _<_}
-use mathlib.Core.Path.{_≡_, refl, sym, _∙_, ap, ap₂}
-use mathlib.Core.Bool.{Bool, true, false}
-use mathlib.Core.List.{List, [], _∷_, _++_, map}
+use mathlib.Core.Path.{_≡_, refl, sym, _∙_, ap}
+use mathlib.Core.List.{List, _∷_, _++_}
 use native.Mathlib.Nat.{suc-add}
 use native.Mathlib.Omega.{arith}
-use lib.Dec.{eqb}
-use lib.IntN.{ℤ}
 use lib.ListN.{length, getD, set, take, drop, length-append}
 use lib.Seq.{drop-cons, drop-length, take-at, drop-at, getD-take}
-use Rattle.model.specs.Block.{Block, Answer, answers, InRange}
+use Rattle.model.specs.Block.{Block, answers, InRange}
 use Rattle.model.proofs.Bounds.{width-small}
 use Rattle.wire.specs.Writing.{put}
-use Rattle.wire.specs.Folding.{folded, unfolded}
 use Rattle.wire.proofs.Writing.{bytesOf-one, put-nil, put-cons, put-start}
-use Rattle.wire.proofs.RoundTrip.{unfolded-folded}
-use Rattle.detector.specs.Reply.{markOf, answerNumbers, answersNumbers, replyNumbers, written, replyOf}
+use Rattle.detector.specs.Reply.{answersNumbers, replyNumbers, written, replyOf}
 use Rattle.detector.proofs.Replies.{reply-read}
 use Rattle.listing.specs.Replied.{takenAt, numbersFrom, placeAfter, Stand}
-use Rattle.listing.specs.Text.{answerFrom}
 
 -- One turn of reading n numbers, after i of them, and after the last
 module _ (n i : ℕ) (bytes : List ℕ) (at : ℕ) where
@@ -113,20 +107,3 @@ module _ (b : Block) (ranged : InRange b) where
   answers-stand =
       ap (numbersFrom (length (answersNumbers (answers b))) (replyOf b)) (sym seven)
       ∙ from-place (length (answersNumbers (answers b))) 3 (omega arith)
-
--- The answer that the numbers of an answer say is that answer
-unfold-all : (zs : List ℤ) → map unfolded (map folded zs) ≡ zs
-unfold-all [] = refl
-unfold-all (z ∷ zs) = ap₂ _∷_ (unfolded-folded z) (unfold-all zs)
-
-mark-told : (stopped : Bool) → eqb (markOf stopped) 1 ≡ stopped
-mark-told true = refl
-mark-told false = refl
-
-pub answer-told : (a : Answer) → answerFrom (answerNumbers a) ≡ a
-unfolding answerFrom
-answer-told a = λ j. record {
-  stopped = mark-told (a .stopped) j;
-  count = a .count;
-  result = record { label = a .result .label; soft = unfold-all (a .result .soft) j };
-}

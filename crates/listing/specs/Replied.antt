@@ -8,7 +8,8 @@ use Rattle.wire.specs.Reading.{numberAt}
 use Rattle.wire.specs.declared.Number.{Number}
 use Rattle.wire.specs.declared.Number.the-variants.{Value, Short, Malformed}
 use Rattle.detector.specs.Steps.{Wrote}
-use Rattle.listing.specs.Text.{vectorLine, answerFrom}
+use Rattle.detector.specs.ReadBack.{answerFrom}
+use Rattle.listing.specs.Text.{vectorLine}
 use Rattle.listing.specs.declared.Taken.{Taken}
 use Rattle.listing.specs.declared.Progress.{Progress}
 

@@ -118,14 +118,6 @@ byRead numbers (Refused r) = refusedLine (refusalNumber r)
 unfoldable pub listingOf : List ℕ → List ℕ
 listingOf bytes = byRead (readWhole bytes .numbers) (readWhole bytes .read)
 
--- The answer that numbers of a reply say: mark, nodes, label, folded soft values
-unfoldable pub answerFrom : List ℕ → Answer
-answerFrom numbers = record {
-  stopped = eqb (getD numbers 0 0) 1;
-  count = getD numbers 1 0;
-  result = record { label = getD numbers 2 0; soft = map unfolded (drop 3 numbers) };
-}
-
 -- What a vector's line asks: a mark, nodes, a label and a value for each prior, at most 24 of these; and room for any such line
 pub record LineAsked (at numbers bits room : ℕ) : Type 0 where
   pub all : numbers ≡ 3 + bits

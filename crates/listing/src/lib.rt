@@ -15,7 +15,8 @@ ghost use Rattle.detector.specs.Steps.{Wrote};
 ghost use Rattle.listing.specs.Against.{against, negativeMark, nonzeroMark};
 ghost use Rattle.listing.specs.Replied.{takenAt, numbersFrom, placeAfter, VectorAsked, Listed};
 ghost use Rattle.listing.specs.Text.{lineEnd, decimalOf, field, stateWord, valueText, softText, headLine, vectorLine};
-ghost use Rattle.listing.specs.Text.{answerFrom, LineAsked, blockText, listingOf};
+ghost use Rattle.detector.specs.ReadBack.{answerFrom};
+ghost use Rattle.listing.specs.Text.{LineAsked, blockText, listingOf};
 ghost use Rattle.listing.specs.Steps.{Sized, NumberedAsked, Numbered, VectorsAsked, VectorsListed, BlockAsked};
 
 // Room for the listing of any record: a first line of at most 87 bytes, 64 lines of at most 341, a last one of at most 17.

@@ -14,6 +14,7 @@ use Rattle.block.specs.Conditions.{calledFor}
 use Rattle.block.specs.Filling.{Filling, refused, filled, fitted}
 use Rattle.block.specs.declared.Refusal.the-variants.{Ends, Streams, Width, Vectors, Clip, Share, Diagonal}
 use Rattle.block.specs.declared.Refusal.the-variants.{Entry, Received, Prior, Trailing, Buffer, Crowded}
+use Rattle.block.proofs.Readings.{listingRecord}
 use Rattle.records.specs.Writing.{checked, bytesFor, recordOf, writing, reading}
 
 -- "That vector twice, C = 10, D = 3": R rows (1, 1), (0, 1), y = (1, -1), priors 0
@@ -22,12 +23,6 @@ vector = pos 1 ∷ pos 1 ∷ pos 0 ∷ pos 1 ∷ pos 1 ∷ pos 0 ∷ negsuc 0 �
 
 abbrev listing : List ℤ
 listing = pos 2 ∷ pos 1 ∷ pos 2 ∷ pos 10 ∷ pos 3 ∷ vector ++ vector
-
--- "43 42 52 31 02 01 02 0A 03, then twice 01 02 00 01 02 00 01 00 00 00"
-abbrev listingBytes : List ℕ
-listingBytes =
-    0x43 ∷ 0x42 ∷ 0x52 ∷ 0x31 ∷ 0x02 ∷ 0x01 ∷ 0x02 ∷ 0x0A ∷ 0x03 ∷ 0x01 ∷ 0x02 ∷ 0x00 ∷ 0x01 ∷ 0x02 ∷ 0x00 ∷ 0x01 ∷ 0x00 ∷ 0x00 ∷ 0x00
-    ∷ 0x01 ∷ 0x02 ∷ 0x00 ∷ 0x01 ∷ 0x02 ∷ 0x00 ∷ 0x01 ∷ 0x00 ∷ 0x00 ∷ 0x00 ∷ []
 
 -- One stream of one bit up to its prior: C = 5, D = 2, R = 1, y = 2
 abbrev one : List ℤ
@@ -44,7 +39,7 @@ case given room comes = record { given = given; room = room; comes = comes }
 
 unfoldable pub lists : List (Case ℤ ℕ)
 lists =
-    case listing 29 (filled listingBytes)
+    case listing 29 (filled listingRecord)
     ∷ case listing 28 (refused Buffer)
     ∷ case [] 0 (refused Ends)
     ∷ case (pos 5 ∷ pos 8 ∷ []) 0 (refused Streams)
@@ -67,9 +62,9 @@ lists =
 
 unfoldable pub records : List (Case ℕ ℤ)
 records =
-    case listingBytes 25 (filled listing)
-    ∷ case listingBytes 24 (refused Buffer)
-    ∷ case (listingBytes ++ 0x00 ∷ []) 24 (refused Trailing)
+    case listingRecord 25 (filled listing)
+    ∷ case listingRecord 24 (refused Buffer)
+    ∷ case (listingRecord ++ 0x00 ∷ []) 24 (refused Trailing)
     ∷ case (0x43 ∷ 0x42 ∷ 0x52 ∷ 0x31 ∷ 0x04 ∷ 0x08 ∷ []) 0 (refused Crowded)
     ∷ []
 

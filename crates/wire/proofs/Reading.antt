@@ -15,7 +15,7 @@ use lib.Pow.{shl-exact}
 use lib.Seq.{drop-cons}
 use Rattle.wire.specs.declared.Number.{Number}
 use Rattle.wire.specs.declared.Number.the-variants.{Value, Short, Malformed}
-use Rattle.wire.specs.Reading.{above, lastGroup, groups, numberAt}
+use Rattle.wire.specs.Reading.{above, lastGroup, groups, numberAt, numberRefusal}
 use Rattle.wire.proofs.Writing.{weight}
 
 module _ (g : ℕ) (first : Bool) (at b : ℕ) (l : List ℕ) where
@@ -118,3 +118,14 @@ digits-set b v k h l =
 pub digits-below : (b v k : ℕ) → v < 2 ^ (7 * k) → b % 128 * 2 ^ (7 * k) + v < 2 ^ (7 * (k + 1))
 digits-below b v k l =
     let most : b % 128 ≤ 127 = omega arith in rw (add-one k, weight k) (omega (arith, mul-le-mul-right (2 ^ (7 * k)) most))
+
+-- The document's number tells which of the two it is that cannot be read
+pub is-short : (x : Number) → numberRefusal x ≡ 2 → x ≡ Short
+is-short (Value v next) e = absurd (omega arith)
+is-short Short e = refl
+is-short Malformed e = absurd (omega arith)
+
+pub is-malformed : (x : Number) → numberRefusal x ≡ 3 → x ≡ Malformed
+is-malformed (Value v next) e = absurd (omega arith)
+is-malformed Short e = absurd (omega arith)
+is-malformed Malformed e = refl

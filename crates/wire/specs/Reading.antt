@@ -36,10 +36,10 @@ Sound Malformed n = Unit {0}
 
 -- The refusal, 0 for none. 2: "record ends before its last group". 3: "four groups all with the high bit, or a last group of 0 after
 -- another"
-abbrev pub refusalOf : Number → ℕ
-refusalOf (Value v next) = 0
-refusalOf Short = 2
-refusalOf Malformed = 3
+abbrev pub numberRefusal : Number → ℕ
+numberRefusal (Value v next) = 0
+numberRefusal Short = 2
+numberRefusal Malformed = 3
 
 -- Every entry is a byte, as in a "record"
 abbrev pub Bytes : List ℕ → Type 0

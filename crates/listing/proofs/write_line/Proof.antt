@@ -7,7 +7,8 @@ use borrow.Author.Needs.{needs}
 use lib.ListN.{length, drop, take, length-drop}
 use lib.Seq.{take-all}
 use Rattle.wire.specs.Folding.{unfolded}
-use Rattle.listing.specs.Text.{field, blank, softText, vectorLine, answerFrom}
+use Rattle.detector.specs.ReadBack.{answerFrom}
+use Rattle.listing.specs.Text.{field, blank, softText, vectorLine}
 use Rattle.listing.proofs.Pieces.{wrote-same, wrote-then}
 use Rattle.listing.proofs.write_line.Statement.{statement}
 use Rattle.listing.proofs.write_line.Tie as tie

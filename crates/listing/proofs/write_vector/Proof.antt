@@ -7,7 +7,8 @@ use borrow.Author.Needs.{needs}
 use lib.ListN.{length, getD, take}
 use lib.Seq.{length-take-le}
 use Rattle.wire.proofs.Writing.{put-length}
-use Rattle.listing.specs.Text.{vectorLine, answerFrom}
+use Rattle.detector.specs.ReadBack.{answerFrom}
+use Rattle.listing.specs.Text.{vectorLine}
 use Rattle.listing.specs.Replied.{numbersFrom}
 use Rattle.listing.proofs.Pieces.{wrote-same}
 use Rattle.listing.proofs.Replied.{taken-front, taken-at}

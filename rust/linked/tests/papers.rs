@@ -1,0 +1,36 @@
+//! What IEEE 802.11's tables and document 01's first trap ask for, asked of the proved library itself: expected answers are
+//! worked out from the tables and by hand, not by a Rust detector.
+
+use reference::ieee80211::receptions;
+use reference::{eq_31, plain};
+
+/// Each symbol of each table in each stream, 10 x (2 + 4 + 16 + 64) + 6 x 256 receptions: with C = 4 every value is 4 or -4 by
+/// the sent bit (tests/mapping.rs holds the expected ones to that), and a node a stream is walked.
+#[test]
+fn a_sent_point_is_found_in_every_stream() {
+    let receptions = receptions(4);
+    assert_eq!(receptions.len(), 2_396);
+    for reception in receptions {
+        assert_eq!(reception.check(linked::detect), reception.block.streams as i64, "{}", reception.sent);
+    }
+}
+
+/// The soft values are those that the tables' points have; with one stream also under the largest C, which clips none.
+#[test]
+fn soft_values_are_those_of_the_tables() {
+    let alone = receptions(16_777_215).into_iter().filter(|reception| reception.block.streams == 1);
+    for reception in receptions(100).into_iter().chain(alone) {
+        reception.check(linked::detect);
+    }
+}
+
+/// Leaves 10, 12, 8, 6: the bit's value is -3; a clip from below at each new best leaf gives -1 (tests/wrong_detectors.rs).
+#[test]
+fn a_clip_at_each_new_best_leaf_would_be_wrong() {
+    for (block, answer) in eq_31::cases() {
+        let expected = plain::reply_bytes(&block, &[answer]);
+        let mut reply = vec![0xA5; block.buffer_bound()];
+        let length = linked::detect(&block.record(), &mut reply);
+        assert_eq!((length, &reply[..expected.len()]), (expected.len() as i64, expected.as_slice()), "D = {}", block.share);
+    }
+}
