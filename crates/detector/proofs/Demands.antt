@@ -61,7 +61,7 @@ module _ (bytes : List ℕ) (room : ℕ) where
   turned-outcome r e = ap (byRead room (readWhole bytes .numbers)) e
 
   -- Of a whole record the buffer decides
-  whole-outcome : (w : Whole bytes (length bytes)) → outcome bytes room ≡ byRoom room (blockOf (w .numbers))
+  pub whole-outcome : (w : Whole bytes (length bytes)) → outcome bytes room ≡ byRoom room (blockOf (w .numbers))
   unfolding outcome readWhole
   whole-outcome w =
       let is = read-whole bytes w in

@@ -134,7 +134,7 @@ write-accepted numbers room bytes e = go (checked (calledFor numbers) numbers) r
     go (turned r) f g = absurd (not-both refl g)
 
 -- A record that is accepted was read to its end, and its numbers are handed out
-read-accepted : (bytes : List ℕ) (places : ℕ) (numbers : List ℤ) → reading bytes places ≡ filled numbers
+pub read-accepted : (bytes : List ℕ) (places : ℕ) (numbers : List ℤ) → reading bytes places ≡ filled numbers
     → (at : ℕ) × (readWhole bytes .read ≡ Ended at) × (readWhole bytes .numbers ≡ numbers)
 unfolding reading
 read-accepted bytes places numbers e = go (readWhole bytes .read) refl e

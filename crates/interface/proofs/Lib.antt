@@ -1,0 +1,2 @@
+-- The exported calls side by side.
+pub mod Agree
