@@ -4,10 +4,10 @@
 # or ends with 0.
 set -eu
 cd "$(dirname "$0")/.."
-made="example stopped priors full wide"
+made="example stopped priors signed-priors full full-stopped wide"
 written="bench tie points"
-samples="samples/example.rec samples/stopped.rec samples/priors.rec samples/full.rec samples/wide.rec samples/refused.rec
-    samples/refused-wide.rec samples/bench.rec samples/tie.rec samples/points.rec"
+broken="empty other-opening cut trailing"
+samples=$(for name in $made refused refused-wide $written $broken; do echo samples/$name.rec; done)
 
 fail() {
     echo "hosts: $1"
@@ -99,9 +99,8 @@ complains "build/missing.rec: the file cannot be opened: No such file or directo
 grep -q "vector 2: stopped after 2 nodes, label 2, soft values -10 10" build/printed || fail "the file after a missing one is not run"
 expect 1 "a folder" build/detect samples
 complains "samples: the file cannot be read: Is a directory" "a folder"
-dd if=/dev/zero of=build/large.rec bs=8208 count=1 2>/dev/null
-expect 1 "too large a file" build/detect build/large.rec
-complains "build/large.rec: the file is too large, a record has at most 8207 bytes" "too large a file"
+expect 1 "too large a file" build/detect samples/too-long.rec
+complains "samples/too-long.rec: the file is too large, a record has at most 8207 bytes" "too large a file"
 expect 2 "no file" build/detect
 expect 2 "no buffer length" build/detect -b 41x samples/example.rec
 
@@ -163,8 +162,8 @@ for name in example full; do
 done
 expect 1 "a full disk for the numbers" sh -c "build/record -n samples/full.rec >/dev/full"
 complains "record: the output cannot be written" "a full disk for the numbers"
-expect 1 "too large a record" build/record -n build/large.rec
-complains "build/large.rec: the file is too large, a record has at most 8207 bytes" "too large a record"
+expect 1 "too large a record" build/record -n samples/too-long.rec
+complains "samples/too-long.rec: the file is too large, a record has at most 8207 bytes" "too large a record"
 cp samples/example.numbers build/own.numbers
 expect 2 "a record in its text's place" build/record -o build/own.numbers build/own.numbers
 complains "record: the record would take the place of its own text, build/own.numbers" "a record in its text's place"
@@ -187,7 +186,7 @@ same build/refusals/expected build/refusals/complaints "the numbers of refused r
 awk '/^```c$/ { inside = 1; next } /^```$/ { inside = 0 } inside' README.md >build/readme.c
 gcc -std=c99 -Wall -Wextra -Werror -Ibuild build/readme.c build/libgeckoneedle.a -o build/readme || fail "README.md's program does not build"
 [ "$(build/readme <samples/example.rec)" = "a reply of 17 bytes" ] || fail "README.md's program does not run"
-[ "$(build/readme <build/large.rec)" = "refused by 1" ] || fail "README.md's program takes too long a record"
+[ "$(build/readme <samples/too-long.rec)" = "refused by 13" ] || fail "README.md's program takes too long a record"
 
 # The text that README.md shows, which is the lines behind the command that prints it, and what is said of it with another share.
 awk '/^    \$/ { inside = $0 ~ /cat block.numbers$/; next } inside { sub(/^    /, ""); print }' README.md >build/readme.numbers

@@ -199,6 +199,11 @@ fn largest() -> Parts {
     longest(4, 6)
 }
 
+/// Its bytes.
+pub fn longest_record() -> Vec<u8> {
+    largest().bytes()
+}
+
 /// The longest record of M and Q: 64 vectors, each number as long as it can be in its range.
 fn longest(streams: i64, bits: i64) -> Parts {
     let mut chance = Chance(64);
@@ -666,7 +671,7 @@ mod tests {
     fn the_largest_record_has_8207_bytes() {
         let longest = |&(streams, bits): &(usize, usize)| longest(streams as i64, bits as i64).bytes().len();
         assert_eq!(SHAPES.iter().map(longest).max(), Some(8_207));
-        assert_eq!(largest().bytes().len(), 8_207);
+        assert_eq!(longest_record().len(), 8_207);
     }
 
     /// M, in its range, and Q are refused alone where no pair has them.

@@ -1,17 +1,21 @@
-//! The sample records of samples/ by their whole numbers, these numbers as a text and back, and a record for each refusal.
+//! The sample records of samples/, by their whole numbers or by their bytes; numbers as a text and
+//! back; a record for each refusal.
 
 use crate::block::{Block, Complex, Vector};
+use crate::cases::longest_record;
 use crate::chance::Chance;
 use crate::channel::Plan;
 use crate::record::{encode, Numbers, Refusal};
 
-/// The names of the samples that are made here, and their numbers.
-pub fn all() -> [(&'static str, Numbers); 7] {
+/// The names of the samples that are made here of numbers, and these.
+pub fn all() -> [(&'static str, Numbers); 9] {
     [
         ("example", example_numbers()),
         ("stopped", stopped()),
         ("priors", priors()),
+        ("signed-priors", signed_priors()),
         ("full", full()),
+        ("full-stopped", full_stopped()),
         ("wide", wide()),
         ("refused", refused()),
         ("refused-wide", refused_wide()),
@@ -20,6 +24,19 @@ pub fn all() -> [(&'static str, Numbers); 7] {
 
 /// The names of the samples that were written by hand, as a text: samples/NAME.numbers is where their numbers come from.
 pub const WRITTEN: [&str; 3] = ["bench", "tie", "points"];
+
+/// The names of the samples that no list of numbers makes, and their bytes; the last has as many as
+/// the listing program reads.
+pub fn broken() -> [(&'static str, Vec<u8>); 5] {
+    let example = example();
+    [
+        ("empty", vec![]),
+        ("other-opening", [&[0x43, 0x42, 0x53, 0x31], &example[4..]].concat()),
+        ("cut", example[..28].to_vec()),
+        ("trailing", [&example[..], &[0x00]].concat()),
+        ("too-long", [longest_record(), vec![0x00]].concat()),
+    ]
+}
 
 /// Document 01's listing record, byte by byte.
 pub fn example() -> Vec<u8> {
@@ -34,6 +51,14 @@ fn example_numbers() -> Numbers {
     [[2, 1, 2, 10, 3].as_slice(), &vector, &vector].concat()
 }
 
+/// What document 01 says is printed of the example.
+pub const EXAMPLE_LISTING: &str = "\
+streams 2 bits 1 vectors 2 clip 10 share 3
+1 stopped 4 2 0 -8 10
+2 stopped 2 2 0 -10 10
+total 6
+";
+
 /// Six vectors in strong noise, with an allowance that some of them use up.
 fn stopped() -> Numbers {
     let plan = Plan { streams: 4, bits: 4, vectors: 6, clip: 8.0, share: 40, noise: 0.9, prior: 0.0 };
@@ -46,10 +71,25 @@ fn priors() -> Numbers {
     plan.block(&mut Chance(22)).numbers()
 }
 
+/// One vector of two streams of four points, under priors of either sign, weak and strong, and none.
+fn signed_priors() -> Numbers {
+    let vector = [3, 1, -2, 4, 5, -7, -3, 2];
+    let priors =
+        [[0, 0, 0, 0], [6, -4, 0, -1], [-6, 4, 0, 1], [1, 1, 1, 1], [-1, -1, -1, -1], [900, -900, 900, 0], [-900, 900, 0, 900]];
+    let vectors = priors.iter().flat_map(|priors| [vector.as_slice(), priors].concat());
+    [2, 2, 7, 40, 9].into_iter().chain(vectors).collect()
+}
+
 /// The largest block: four streams of 64 points, 64 vectors.
 fn full() -> Numbers {
     let plan = Plan { streams: 4, bits: 6, vectors: 64, clip: 8.0, share: 3_000, noise: 0.5, prior: 2.0 };
     plan.block(&mut Chance(23)).numbers()
+}
+
+/// The same sizes in strong noise, with an allowance that is used up before the last vectors.
+fn full_stopped() -> Numbers {
+    let plan = Plan { streams: 4, bits: 6, vectors: 64, clip: 2.0, share: 60, noise: 0.9, prior: 1.0 };
+    plan.block(&mut Chance(6)).numbers()
 }
 
 /// Three streams of 256 points with priors, and an allowance that the last vectors use up.
@@ -152,14 +192,18 @@ mod tests {
     }
 
     #[test]
-    fn only_two_samples_are_refused() {
-        for (name, numbers) in all() {
+    fn the_samples_that_are_refused() {
+        let records = all().map(|(name, numbers)| (name, encode(&numbers)));
+        for (name, record) in records.into_iter().chain(broken()) {
             let refusal = match name {
+                "empty" | "other-opening" => Some(1),
+                "cut" => Some(2),
                 "refused" => Some(12),
+                "trailing" | "too-long" => Some(13),
                 "refused-wide" => Some(15),
                 _ => None,
             };
-            assert_eq!(read(&encode(&numbers)).err(), refusal, "{name}");
+            assert_eq!(read(&record).err(), refusal, "{name}");
         }
     }
 

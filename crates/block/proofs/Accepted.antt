@@ -3,14 +3,13 @@
 use Prim.Native.Nat.{ℕ, zero, suc, _+_, _*_, _<_}
 use mathlib.Core.Path.{_≡_, _∙_}
 use mathlib.Core.Bool.{true}
-use mathlib.Core.List.{List, _++_, map}
+use mathlib.Core.List.{List, _++_}
 use native.Mathlib.Omega.{arith}
 use native.Mathlib.Nat.{suc-mul}
 use lib.ListN.{length, getD, take, drop, length-append}
 use lib.Seq.{drop-drop}
 use lib.IntN.{ℤ, pos}
-use Rattle.model.specs.Soft.{upFrom}
-use Rattle.model.specs.Block.{Every, InRange, mostStreams, mostVectors, mostClip, mostShare}
+use Rattle.model.specs.Block.{InRange, mostStreams, mostVectors, mostClip, mostShare}
 use Rattle.model.proofs.Lists.{every-upFrom}
 use Rattle.block.specs.Table.{allowed}
 use Rattle.block.specs.Reading.{kindsOf, runsOf, vectorSize, countAt, readRecord}

@@ -1,6 +1,6 @@
 -- The runs of a vector by their place: two for each row of R, then y, then the priors; and how many numbers they make.
 use Prim.Native.Nat.{ℕ, zero, suc, _+_, _-_, _*_, _/_, _%_, _≤_, _<_}
-use mathlib.Core.Path.{_≡_, refl, sym, _∙_, ap}
+use mathlib.Core.Path.{_≡_, refl, _∙_, ap}
 use mathlib.Core.Logic.{_≢_}
 use mathlib.Core.List.{List, [], _∷_, _++_}
 use native.Mathlib.Omega.{arith}
@@ -16,7 +16,7 @@ use Rattle.block.specs.declared.Kind.the-variants.{DiagonalEntry, RightP
 use Rattle.block.specs.declared.Read.the-variants.{Ended, Refused}
 use Rattle.block.specs.declared.Refusal.{Refusal}
 use Rattle.block.specs.declared.Run.{Run}
-use Rattle.block.specs.declared.Part.the-variants.{First, Sizes, Vector}
+use Rattle.block.specs.declared.Part.the-variants.{Vector}
 
 matrix-count : (m : ℕ) → length (matrixRuns m) ≡ 2 * m
 unfolding matrixRuns

@@ -19,7 +19,6 @@ use Rattle.block.specs.Contents.{blockOf, vectorKinds, recordKinds}
 use Rattle.block.specs.declared.Kind.{Kind}
 use Rattle.block.specs.declared.Kind.the-variants.{StreamCount, SymbolWidth, VectorCount, ClipLevel, NodeShare}
 use Rattle.block.specs.declared.Kind.the-variants.{DiagonalEntry, RightPart, ReceivedPart, BitPrior}
-use Rattle.block.specs.declared.One.{One}
 use Rattle.block.specs.declared.One.the-variants.{Taken}
 use Rattle.block.specs.declared.Read.the-variants.{Ended}
 use Rattle.block.specs.declared.Run.{Run}

@@ -1,5 +1,5 @@
 -- What a short-circuit `&&` or `||` gives at each of its exits.
-use mathlib.Core.Path.{_≡_, refl, sym, _∙_}
+use mathlib.Core.Path.{_≡_, refl, sym}
 use mathlib.Core.Bool.{Bool, true, false, _&&_, _||_, true≢false}
 
 pub and-true : (a b : Bool) → a ≡ true → b ≡ (a && b)

@@ -16,7 +16,6 @@ use Rattle.wire.specs.declared.Number.the-variants.{Value, Short, Malformed}
 use Rattle.block.specs.Table.{allowed, isFolded, refusalOf}
 use Rattle.block.specs.declared.Kind.{Kind}
 use Rattle.block.specs.declared.Kind.the-variants.{StreamCount, SymbolWidth, VectorCount, ClipLevel, NodeShare, DiagonalEntry, RightPart, ReceivedPart, BitPrior}
-use Rattle.block.specs.declared.Refusal.{Refusal}
 use Rattle.block.specs.declared.Refusal.the-variants.{Opening, Ends, Malformed as NoNumber, Trailing}
 use Rattle.block.specs.declared.One.{One}
 use Rattle.block.specs.declared.One.the-variants.{Taken, Turned}
@@ -99,6 +98,10 @@ Small (Vector m q) = (m ≤ mostStreams) × (q ≤ mostWidth) × (m * q ≤ most
 
 abbrev pub partAt : Part → List ℕ → ℕ → Parse
 partAt p bytes at = numbersAt (kindsOf (runsOf p)) bytes at
+
+-- How many numbers a record has at most: M, Q, N, C and D, and 48 for each of 64 vectors
+abbrev pub mostNumbers : ℕ
+mostNumbers = 3077
 
 -- How many numbers a vector has
 abbrev pub vectorSize : ℕ → ℕ → ℕ

@@ -7,7 +7,7 @@ ghost use lib.IntN.{pos, negℤ, natAbs};
 ghost use lib.ListN.{length, getD, replicate};
 ghost use Rattle.block.specs.Table.{refusalNumber, refusalOf, between, oneOf, crowded, allowed, isFolded};
 ghost use Rattle.model.specs.Block.{widths, mostStreams, mostWidth};
-ghost use Rattle.block.specs.Reading.{wholeOf, byNumber, oneAt, Sure, noRun, kindsOf, Small, countAt, vectorSize, vectorsAt, sizedAt, numbersAt, run, runsOf, partAt, readRecord, readWhole, got, into, startsWith, opening};
+ghost use Rattle.block.specs.Reading.{wholeOf, byNumber, oneAt, Sure, noRun, kindsOf, Small, countAt, mostNumbers, vectorSize, vectorsAt, sizedAt, numbersAt, runsOf, partAt, readRecord, readWhole, got, into, startsWith, opening};
 
 // How many whole numbers a record has at most: 5 and 48 for each of 64 vectors.
 pub const MOST: usize = 3077;
@@ -259,7 +259,7 @@ fn read_run(
     numbers: &mut [i32; MOST],
     from: usize,
 ) -> Read
-    requires { ⌜ from + count ≤ 3077 ⌝ }
+    requires { ⌜ from + count ≤ mostNumbers ⌝ }
     ensures { λ r. ⌜ got r (now (numbers .exit)) ≡ into from (numbersAt (replicate count kind) (now (bytes .entry)) at) (now (numbers .entry)) ⌝ }
 {
     let sure = sure_below(kind);
@@ -363,7 +363,7 @@ fn run_at(part: Part, i: usize) -> Run
 
 // A part of a record, run by run, stored from a place of the lent list on.
 fn read_part(bytes: &[u8], at: usize, part: Part, numbers: &mut [i32; MOST], from: usize) -> Read
-    requires { ⌜ Small part × (from + length (kindsOf (runsOf part)) ≤ 3077) ⌝ }
+    requires { ⌜ Small part × (from + length (kindsOf (runsOf part)) ≤ mostNumbers) ⌝ }
     ensures { λ r. ⌜ got r (now (numbers .exit)) ≡ into from (partAt part (now (bytes .entry)) at) (now (numbers .entry)) ⌝ }
 {
     let runs = run_count(part);
@@ -421,7 +421,7 @@ fn read_vectors(
     numbers: &mut [i32; MOST],
     from: usize,
 ) -> Read
-    requires { ⌜ Small (Part.Vector m q) × (from + n * vectorSize m q ≤ 3077) ⌝ }
+    requires { ⌜ Small (Part.Vector m q) × (from + n * vectorSize m q ≤ mostNumbers) ⌝ }
     ensures { λ r. ⌜ got r (now (numbers .exit)) ≡ into from (vectorsAt n m q (now (bytes .entry)) at) (now (numbers .entry)) ⌝ }
 {
     let size = vector_size(m, q);
@@ -445,7 +445,7 @@ fn read_vectors(
 
 // Q, N, C and D, then N vectors, behind the M that was read.
 fn read_sized(bytes: &[u8], at: usize, m: i32, numbers: &mut [i32; MOST]) -> Read
-    requires { ⌜ (allowed Kind.StreamCount m ≡ true) × (length (now numbers) ≡ 3077) ⌝ }
+    requires { ⌜ (allowed Kind.StreamCount m ≡ true) × (length (now numbers) ≡ mostNumbers) ⌝ }
     ensures { λ r. ⌜ got r (now (numbers .exit)) ≡ into 1 (sizedAt m (now (bytes .entry)) at) (now (numbers .entry)) ⌝ }
 {
     match read_part(bytes, at, Part::Sizes(m), numbers, 1) {
@@ -477,7 +477,7 @@ fn opens(bytes: &[u8]) -> bool
 
 // A record at the front of the bytes: its whole numbers into the lent list, and where it ended. What was taken before a refusal stays.
 pub fn read_record(bytes: &[u8], numbers: &mut [i32; MOST]) -> Read
-    requires { ⌜ length (now numbers) ≡ 3077 ⌝ }
+    requires { ⌜ length (now numbers) ≡ mostNumbers ⌝ }
     ensures { λ r. ⌜ got r (now (numbers .exit)) ≡ into 0 (readRecord (now (bytes .entry))) (now (numbers .entry)) ⌝ }
 {
     if !opens(bytes) {
@@ -494,7 +494,7 @@ pub fn read_record(bytes: &[u8], numbers: &mut [i32; MOST]) -> Read
 
 // The same of bytes that are one record and no more.
 pub fn read_whole(bytes: &[u8], numbers: &mut [i32; MOST]) -> Read
-    requires { ⌜ length (now numbers) ≡ 3077 ⌝ }
+    requires { ⌜ length (now numbers) ≡ mostNumbers ⌝ }
     ensures { λ r. ⌜ got r (now (numbers .exit)) ≡ into 0 (readWhole (now (bytes .entry))) (now (numbers .entry)) ⌝ }
 {
     match read_record(bytes, numbers) {

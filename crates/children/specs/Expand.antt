@@ -9,7 +9,7 @@ use lib.ListN.{length, getD, replicate}
 use Rattle.model.specs.Constellation.{Complex, bitsOf}
 use Rattle.constellation.specs.Points.{Points, complexOf}
 use Rattle.metric.specs.Rows.{rowAt, remainderOf, childOf}
-use Rattle.metric.specs.Parts.{span}
+use Rattle.metric.specs.Parts.{span, remainderBound}
 use Rattle.metric.specs.Tables.{axisPlace, tablePart, partsIn, Tabled}
 use Rattle.metric.specs.Tables.Axis.{real, imaginary}
 use Rattle.pruning.specs.Program.{above, largestPartial, chosen}
@@ -43,8 +43,8 @@ pub record OpenAsked (t : Sizes) (numbers tables : List ℤ) (n : Node) (best : 
   pub left : complexOf re im
       ≡ remainderOf (t .width) (rowAt (t .streams) (t .width) numbers (n .level - 1))
       (bitsOf ((t .streams - suc (n .level - 1)) * t .width) (n .bits))
-  pub low-re : natAbs re < 2 ^ 30
-  pub low-im : natAbs im < 2 ^ 30
+  pub low-re : natAbs re < remainderBound
+  pub low-im : natAbs im < remainderBound
 
 -- What all children of a node with `level` streams to choose are held against: below it each of them passes
 abbrev pub baseOf : ℕ → List ℕ → ℕ → ℕ → ℕ

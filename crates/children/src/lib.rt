@@ -7,7 +7,6 @@ use metric::Complex;
 use metric::Shape;
 use metric::TABLE;
 ghost use mathlib.Core.Path.{_≡_};
-ghost use mathlib.Core.Bool.{true};
 ghost use Prim.Native.Nat.{_-_, _*_, _<_, _≤_, _^_};
 ghost use lib.ListN.{length};
 ghost use Rattle.model.specs.Block.{mostStreams, mostWidth, mostBits};

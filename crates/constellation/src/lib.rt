@@ -2,7 +2,7 @@
 mod table;
 
 ghost use mathlib.Core.Path.{_≡_};
-ghost use Prim.Native.Nat.{_+_, _*_, _-_, _/_, _%_, _<_, _≤_, _^_};
+ghost use Prim.Native.Nat.{_/_, _%_, _<_, _≤_, _^_};
 ghost use lib.ListN.{length};
 ghost use Rattle.model.specs.Constellation.{amplitude, bitsOf};
 ghost use Rattle.model.specs.Block.{mostWidth, widths, _∈_};

@@ -7,7 +7,7 @@ use lib.Dec.{eqb}
 use lib.IntN.{ℤ, pos, natAbs}
 use lib.ListN.{length, getD}
 use Rattle.model.specs.Block.{mostEntry}
-use Rattle.metric.specs.Parts.{axisWidth, span, nearestOf, bitOf}
+use Rattle.metric.specs.Parts.{axisWidth, span, nearestOf, bitOf, remainderBound}
 use Rattle.metric.specs.Tables.{tableSize, axisPlace, axisBits, tablePart, AxisAsked}
 use Rattle.metric.specs.Tables.Axis.{real, imaginary}
 
@@ -24,8 +24,8 @@ ByBits entries from w =
 -- What making the part of label g of an axis asks: its product and its cost stand within the table, in their ranges
 pub record LabelAsked (tables : List ℤ) (at : ℕ) (left : ℤ) (g : ℕ) : Type 0 where
   pub room : at + span + g < tableSize
-  pub remains : natAbs left < 2 ^ 30
-  pub product : natAbs (getD tables (at + g) (pos 0)) < 2 ^ 30
+  pub remains : natAbs left < remainderBound
+  pub product : natAbs (getD tables (at + g) (pos 0)) < remainderBound
   pub cost : getD tables (at + span + g) (pos 0) ≡ pos (natAbs (getD tables (at + span + g) (pos 0)))
 
 -- What finding the least part of an axis asks: the parts are made by the table
@@ -45,7 +45,7 @@ pub record PartAsked (tables : List ℤ) (at : ℕ) (left : ℤ) (w other : ℕ)
 -- nearest of all comes to, and `own` is the best label's
 pub record BitAsked (left : ℤ) (diagonal w other low : ℕ) (entries : List ℕ) (from own : ℕ) : Type 0 where
   pub bits : w ≤ axisWidth
-  pub remains : natAbs left < 2 ^ 30
+  pub remains : natAbs left < remainderBound
   pub entry : diagonal ≤ mostEntry
   pub added : other < 2 ^ 62
   pub nearest : low ≤ other + nearestOf diagonal w (natAbs left) * nearestOf diagonal w (natAbs left)

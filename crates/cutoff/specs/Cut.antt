@@ -7,7 +7,7 @@ use lib.Bits.{bitXor}
 use lib.IntN.{ℤ, natAbs}
 use lib.ListN.{length, getD}
 use Rattle.model.specs.Block.{mostWidth}
-use Rattle.metric.specs.Parts.{span}
+use Rattle.metric.specs.Parts.{span, remainderBound}
 use Rattle.metric.specs.Rows.{VectorAsked}
 use Rattle.metric.specs.Tables.{axisPlace}
 use Rattle.metric.specs.Tables.Axis.{real, imaginary}
@@ -35,8 +35,8 @@ pub record Widest (q : ℕ) (entries : List ℕ) : Type 0 where
 pub record OpensAsked (m q row : ℕ) (re im : ℤ) (partial : ℕ) (numbers : List ℤ) (entries : List ℕ) (own : ℕ) : Type 0 where
   pub vector : VectorAsked m q numbers
   pub inside : row < m
-  pub low-re : natAbs re < 2 ^ 30
-  pub low-im : natAbs im < 2 ^ 30
+  pub low-re : natAbs re < remainderBound
+  pub low-im : natAbs im < remainderBound
   pub low : partial < 2 ^ 61
   pub stream : length entries ≡ 2 * span
   pub widest : Widest q entries

@@ -4,7 +4,7 @@ use mathlib.Core.Path.{_≡_}
 use mathlib.Core.List.{List}
 use lib.IntN.{ℤ, pos}
 use lib.ListN.{length, getD}
-use Rattle.model.specs.Block.{Answer, vectorOf, answer, allowance, mostStreams, mostVectors}
+use Rattle.model.specs.Block.{Answer, vectorOf, answer, allowance, mostStreams, mostBits, mostVectors}
 use Rattle.wire.specs.Writing.{put}
 use Rattle.wire.specs.Folding.{folded}
 use Rattle.block.specs.Reading.{countAt}
@@ -38,8 +38,8 @@ answerAt list spent k = answer (vectorOf (blockOf list) (vectorRows list k)) (al
 
 -- What writing n soft values asks: room for four groups each, and values that fit these
 pub record SoftAsked (at n : ℕ) (soft : List ℤ) (room : ℕ) : Type 0 where
-  pub few : n ≤ 24
-  pub bits : length soft ≡ 24
+  pub few : n ≤ mostBits
+  pub bits : length soft ≡ mostBits
   pub buffer : at + 4 * n ≤ room
   pub each : (i : ℕ) → i < n → folded (getD soft i (pos 0)) < 2 ^ 28
 
@@ -64,7 +64,7 @@ pub record SearchOneAsked (h : Header) (list : List ℤ) (k : ℕ) (points : Lis
   pub inside : k < h .vectors
   pub pointed : Points (h .width) points
   pub work : keyPlaces ≤ keys
-  pub array : bits ≡ 24
+  pub array : bits ≡ mostBits
 
 -- What answering it asks: besides, M nodes for each vector from k on, and room for an answer
 pub record StepAsked (h : Header) (list : List ℤ) (k at spent : ℕ) (points : List ℤ) (keys bits room : ℕ) : Type 0 where

@@ -2,6 +2,7 @@
 use block::Read;
 use block::Refusal;
 use constellation::PLACES;
+use metric::LABEL_BITS;
 use search::Found;
 use search::Task;
 ghost use mathlib.Core.Path.{_≡_};
@@ -9,7 +10,8 @@ ghost use mathlib.Core.List.{[], _∷_, _++_, map};
 ghost use Prim.Native.Nat.{_+_, _-_, _*_, _<_, _≤_};
 ghost use lib.ListN.{length, take};
 ghost use Rattle.wire.specs.Folding.{folded};
-ghost use Rattle.model.specs.Block.{vectorOf, mostStreams, mostWidth, mostVectors};
+ghost use Rattle.model.specs.Block.{vectorOf, mostStreams, mostWidth, mostBits, mostVectors};
+ghost use Rattle.block.specs.Reading.{mostNumbers};
 ghost use Rattle.block.specs.Contents.{vectorRows, blockOf};
 ghost use Rattle.search.specs.Values.{Answered};
 ghost use Rattle.detector.specs.Reply.{replyOpening, markOf, answerNumbers, written, replyOf};
@@ -38,7 +40,7 @@ const OPENING: [u8; 4] = [0x43, 0x42, 0x53, 0x31];
 
 // The header of the lent list.
 fn header_of(numbers: &[i32]) -> Header
-    requires { ⌜ length (now numbers) ≡ 3077 ⌝ }
+    requires { ⌜ length (now numbers) ≡ mostNumbers ⌝ }
     ensures { λ r. ⌜ Heads r (now (numbers .entry)) ⌝ }
 {
     Header {
@@ -62,7 +64,7 @@ fn write_head(reply: &mut [u8], m: usize, q: usize, n: usize) -> usize
 }
 
 // The first n soft values, folded; the place after them.
-fn write_soft(reply: &mut [u8], at: usize, soft: &[i32; 24], n: usize) -> usize
+fn write_soft(reply: &mut [u8], at: usize, soft: &[i32; LABEL_BITS], n: usize) -> usize
     requires { ⌜ SoftAsked at n (now soft) (length (now reply)) ⌝ }
     ensures { λ r. ⌜ Wrote (now (reply .entry)) at (written (map folded (take n (now (soft .entry))))) (now (reply .exit)) r ⌝ }
 {
@@ -113,7 +115,7 @@ fn search_one(
     allowed: u32,
     points: &[i8; PLACES],
     keys: &mut [u64],
-    soft: &mut [i32; 24],
+    soft: &mut [i32; LABEL_BITS],
 ) -> Found
     requires { ⌜ SearchOneAsked h (now numbers) k (now points) (length (now keys)) (length (now soft)) ⌝ }
     ensures { λ r. ⌜ Answered (vectorOf (blockOf (now (numbers .entry))) (vectorRows (now (numbers .entry)) k)) allowed
@@ -139,14 +141,14 @@ fn answer_one(
     step: Step,
     points: &[i8; PLACES],
     keys: &mut [u64],
-    soft: &mut [i32; 24],
+    soft: &mut [i32; LABEL_BITS],
     reply: &mut [u8],
 ) -> Step
     requires { ⌜ StepAsked h (now numbers) k (step .at) (step .spent) (now points) (length (now keys)) (length (now soft)) (length (now reply)) ⌝ }
     ensures { λ r. ⌜ Wrote (now (reply .entry)) (step .at) (written (answerNumbers (answerAt (now (numbers .entry)) (step .spent) k)))
         (now (reply .exit)) (r .at)
         × (r .spent ≡ step .spent + answerAt (now (numbers .entry)) (step .spent) k .count)
-        × (length (now (soft .exit)) ≡ 24) ⌝ }
+        × (length (now (soft .exit)) ≡ mostBits) ⌝ }
 {
     let allowed = allowance(h, step.spent, k);
     let found = search_one(numbers, h, k, allowed, points, keys, soft);
@@ -165,7 +167,7 @@ fn answer_all(numbers: &[i32], h: Header, reply: &mut [u8]) -> usize
     let mut points = [0i8; PLACES];
     constellation::fill(h.width, &mut points);
     let mut keys = [0u64; search::KEYS];
-    let mut soft = [0i32; 24];
+    let mut soft = [0i32; LABEL_BITS];
     let mut step = Step {
         at: write_head(reply, h.streams, h.width, h.vectors),
         spent: 0,

@@ -5,7 +5,7 @@ use mathlib.Core.List.{List}
 use native.Mathlib.Omega.{arith}
 use lib.ListN.{length}
 use lib.IntN.{ℤ}
-use Rattle.block.specs.Reading.{readWhole}
+use Rattle.block.specs.Reading.{mostNumbers, readWhole}
 use Rattle.block.specs.Contents.{blockOf}
 use Rattle.block.specs.Filling.{filled}
 use Rattle.block.proofs.Conditions.{read-whole, ends-last}
@@ -31,7 +31,7 @@ written-detected numbers size bytes e room =
 
 -- What the detector accepts the reader reads, into any list that has places for the longest record: the numbers of the block that was
 -- answered
-pub accepted-read : (bytes : List ℕ) (room : ℕ) (reply : List ℕ) → outcome bytes room ≡ filled reply → (places : ℕ) → 3077 ≤ places
+pub accepted-read : (bytes : List ℕ) (room : ℕ) (reply : List ℕ) → outcome bytes room ≡ filled reply → (places : ℕ) → mostNumbers ≤ places
     → (numbers : List ℤ) × (reading bytes places ≡ filled numbers) × (outcome bytes room ≡ byRoom room (blockOf numbers))
 unfolding reading readWhole
 accepted-read bytes room reply e places h =

@@ -1,9 +1,10 @@
 // What a search keeps of its leaves: the best label, the least metric with each bit 0 and with it 1, and the limits that these give; at the end
 // the soft values.
+use metric::LABEL_BITS;
 use siblings::ABOVE;
 ghost use mathlib.Core.Path.{_≡_};
 ghost use mathlib.Core.Bool.{cond};
-ghost use Prim.Native.Nat.{_+_, _*_, _<_, _≤_, _^_, min};
+ghost use Prim.Native.Nat.{_*_, _<_, _≤_, _^_, min};
 ghost use lib.IntN.{natAbs};
 ghost use lib.ListN.{length, getD, set, take};
 ghost use mathlib.Core.List.{_++_};
@@ -39,7 +40,7 @@ pub struct Best {
 }
 
 // The places of the array of minima: the least metrics with each bit 0, then, from here on, those with it 1,
-const ONES: usize = 24;
+const ONES: usize = LABEL_BITS;
 
 // then the limits with what they give.
 pub const LIMITS: usize = 2 * ONES;
@@ -249,7 +250,7 @@ fn soft_value(one: u64, zero: u64, prior: i64, clip: u32) -> i32
 }
 
 // The soft values of all bits.
-pub fn write_soft(sizes: Sizes, numbers: &[i32], minima: &[u64], soft: &mut [i32; 24])
+pub fn write_soft(sizes: Sizes, numbers: &[i32], minima: &[u64], soft: &mut [i32; LABEL_BITS])
     requires { ⌜ Asked sizes (now numbers) × MinimaLow (zerosOf (now minima)) (onesOf (now minima)) × (length (now minima) ≡ minimaSize) ⌝ }
     ensures { λ _. ⌜ now (soft .exit)
         ≡ filled (valueOf (vectorFor sizes (now (numbers .entry))) (takenIn 0 0 (now (minima .entry))))

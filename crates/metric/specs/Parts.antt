@@ -11,6 +11,10 @@ use Rattle.model.specs.Metric.{priorCost}
 use Rattle.model.specs.Soft.{upFrom}
 use Rattle.model.specs.Block.{mostWidth}
 
+-- What remains of y in a row, and a diagonal entry times an amplitude, are below this in magnitude
+abbrev pub remainderBound : ℕ
+remainderBound = 2 ^ 30
+
 -- The most bits of an axis label, and how many labels such an axis has
 abbrev pub axisWidth : ℕ
 axisWidth = mostWidth / 2

@@ -8,7 +8,7 @@ use lib.ListN.{length, getD}
 use Rattle.model.specs.Constellation.{bitsOf, amplitude}
 use Rattle.model.specs.Block.{Every, Within, mostStreams, mostEntry, mostPrior}
 use Rattle.constellation.specs.Points.{places}
-use Rattle.metric.specs.Parts.{axisWidth, span, part, axisCost, filledFrom}
+use Rattle.metric.specs.Parts.{axisWidth, span, part, axisCost, filledFrom, remainderBound}
 use Rattle.metric.specs.Rows.{rowStart, priorStart}
 
 -- The places of a table: a row has two axes, and an axis a span of products and one of costs
@@ -93,8 +93,8 @@ partsIn q tables i re im axes =
 pub record AxisAsked (tables : List ℤ) (at : ℕ) (left : ℤ) (w : ℕ) : Type 0 where
   pub bits : w ≤ axisWidth
   pub room : at + 2 * span ≤ tableSize
-  pub remains : natAbs left < 2 ^ 30
-  pub product : (g : ℕ) → g < 2 ^ w → natAbs (getD tables (at + g) (pos 0)) < 2 ^ 30
+  pub remains : natAbs left < remainderBound
+  pub product : (g : ℕ) → g < 2 ^ w → natAbs (getD tables (at + g) (pos 0)) < remainderBound
   pub cost : (g : ℕ) → g < 2 ^ w → getD tables (at + span + g) (pos 0) ≡ pos (natAbs (getD tables (at + span + g) (pos 0)))
 
 -- What multiplying with an axis's amplitudes asks: they stand in the points from a place on, some places apart

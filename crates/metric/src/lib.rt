@@ -8,14 +8,17 @@ ghost use lib.IntN.{pos, natAbs, _+ℤ_, _-ℤ_, _*ℤ_};
 ghost use lib.ListN.{length, getD};
 ghost use Rattle.model.specs.Constellation.{bitsOf, _⊗_};
 ghost use Rattle.model.specs.Metric.{bitCost};
-ghost use Rattle.model.specs.Block.{mostWidth, mostEntry};
+ghost use Rattle.model.specs.Block.{mostWidth, mostBits, mostEntry};
 ghost use Rattle.constellation.specs.Points.{complexOf, places, pointIn, Points};
 ghost use Rattle.block.specs.Contents.{complexAt};
-ghost use Rattle.metric.specs.Parts.{axisWidth, span, part, bitOf, axisCost, imaginaryIn, rowMetric, measuredTo, apart, nearestOf};
+ghost use Rattle.metric.specs.Parts.{axisWidth, span, part, bitOf, axisCost, imaginaryIn, rowMetric, measuredTo, apart, nearestOf, remainderBound};
 ghost use Rattle.metric.specs.Parts.{filledFrom, AllSmall};
 ghost use Rattle.metric.specs.Rows.{rowAt, remainderOf, VectorAsked, Factors, TermAsked};
 ghost use Rattle.metric.specs.Tables.{tableSize, labelProduct, labelCost, entriesIn, rowsIn, tablePart, partsIn, Tabled};
 ghost use Rattle.metric.specs.Tables.{AxisAsked, AmplitudesAsked, PriorsAsked, EntriesAsked};
+
+// How many bits a label has at most: four streams of 6 bits, or three of 8.
+pub const LABEL_BITS: usize = 24;
 
 // How many labels the widest axis has.
 const SPAN: usize = 16;
@@ -34,7 +37,7 @@ pub struct Shape {
 
 // Bit i, counted from the first, of a label of n bits.
 pub fn bit_at(n: usize, label: u32, i: usize) -> bool
-    requires { ⌜ (i < n) × (n ≤ 24) ⌝ }
+    requires { ⌜ (i < n) × (n ≤ mostBits) ⌝ }
     ensures { λ r. ⌜ r ≡ bitOf n label i ⌝ }
 {
     (label >> (n - 1 - i)) & 1 == 1
@@ -232,7 +235,7 @@ pub fn prepare(shape: Shape, points: &[i8; PLACES], numbers: &[i32], tables: &mu
 
 // What an axis label adds to the increment, by its two entries of the table.
 pub fn axis_part(left: i64, product: i32, cost: i32) -> u64
-    requires { ⌜ (natAbs left < 2 ^ 30) × (natAbs product < 2 ^ 30) × (cost ≡ pos (natAbs cost)) ⌝ }
+    requires { ⌜ (natAbs left < remainderBound) × (natAbs product < remainderBound) × (cost ≡ pos (natAbs cost)) ⌝ }
     ensures { λ r. ⌜ r ≡ natAbs (left -ℤ product) * natAbs (left -ℤ product) + natAbs cost ⌝ }
 {
     integers::square(less(left, product as i64)) + cost as u64
@@ -395,7 +398,7 @@ fn term(points: &[i8; PLACES], numbers: &[i32], place: usize, symbol: usize) -> 
 
 // a less b.
 fn less(a: i64, b: i64) -> i64
-    requires { ⌜ (natAbs a < 2 ^ 30) × (natAbs b < 2 ^ 30) ⌝ }
+    requires { ⌜ (natAbs a < remainderBound) × (natAbs b < remainderBound) ⌝ }
     ensures { λ r. ⌜ r ≡ a -ℤ b ⌝ }
 {
     a - b
@@ -413,7 +416,7 @@ pub fn remainder(
     requires { ⌜ VectorAsked m q (now numbers) × (level < m) × Points q (now points) ⌝ }
     ensures { λ r. ⌜ (complexOf (r .re) (r .im)
         ≡ remainderOf q (rowAt m q (now (numbers .entry)) level) (bitsOf ((m - suc level) * q) node))
-        × (natAbs (r .re) < 2 ^ 30) × (natAbs (r .im) < 2 ^ 30) ⌝ }
+        × (natAbs (r .re) < remainderBound) × (natAbs (r .im) < remainderBound) ⌝ }
 {
     let start = level * (2 * m - level) + 1;
     let later = m - (level + 1);
@@ -441,8 +444,8 @@ fn gap(a: u64, b: u64) -> u64
 // The distance from e to the nearest of the amplitudes of an axis of w bits, times the diagonal: the axis is folded at 0, and then at the
 // middle of what is left.
 fn folded(e: i64, diagonal: u64, w: usize) -> u64
-    requires { ⌜ (natAbs e < 2 ^ 30) × (diagonal ≤ mostEntry) × (w ≤ axisWidth) ⌝ }
-    ensures { λ r. ⌜ (r ≡ nearestOf diagonal w (natAbs e)) × (r < 2 ^ 30) ⌝ }
+    requires { ⌜ (natAbs e < remainderBound) × (diagonal ≤ mostEntry) × (w ≤ axisWidth) ⌝ }
+    ensures { λ r. ⌜ (r ≡ nearestOf diagonal w (natAbs e)) × (r < remainderBound) ⌝ }
 {
     let mut distance = integers::magnitude(e);
     let mut k = w;
@@ -455,8 +458,8 @@ fn folded(e: i64, diagonal: u64, w: usize) -> u64
 
 // The same, with the three bits of an axis of 64-QAM made known to the compiler.
 pub fn nearest(e: i64, diagonal: u64, w: usize) -> u64
-    requires { ⌜ (natAbs e < 2 ^ 30) × (diagonal ≤ mostEntry) × (w ≤ axisWidth) ⌝ }
-    ensures { λ r. ⌜ (r ≡ nearestOf diagonal w (natAbs e)) × (r < 2 ^ 30) ⌝ }
+    requires { ⌜ (natAbs e < remainderBound) × (diagonal ≤ mostEntry) × (w ≤ axisWidth) ⌝ }
+    ensures { λ r. ⌜ (r ≡ nearestOf diagonal w (natAbs e)) × (r < remainderBound) ⌝ }
 {
     if w == 3 {
         return folded(e, diagonal, 3);
@@ -476,7 +479,7 @@ pub fn fill_parts(
 )
     requires { ⌜ VectorAsked (shape .streams) (shape .width) (now numbers)
         × Tabled (shape .streams) (shape .width) (now numbers) (now tables) × (row < shape .streams)
-        × (natAbs (left .re) < 2 ^ 30) × (natAbs (left .im) < 2 ^ 30) × (length (now axes) ≡ 2 * span) × AllSmall (now axes) ⌝ }
+        × (natAbs (left .re) < remainderBound) × (natAbs (left .im) < remainderBound) × (length (now axes) ≡ 2 * span) × AllSmall (now axes) ⌝ }
     ensures { λ _. ⌜ now (axes .exit)
         ≡ partsIn (shape .width) (now (tables .entry)) row (left .re) (left .im) (now (axes .entry)) ⌝ }
 {

@@ -1,13 +1,13 @@
 -- In a walk that no allowance stops each label is walked or cut, so pruning is exact: a child that does not pass leaves every label below
 -- it worse than the best leaf and at or above its limits, since going down the tree no metric falls, and what is cut stays cut.
-use Prim.Native.Nat.{ℕ, zero, suc, _+_, _-_, _*_, _≤_, _<_}
+use Prim.Native.Nat.{ℕ, suc, _+_, _-_, _*_, _≤_, _<_}
 use mathlib.Core.Path.{_≡_, refl, sym, _∙_, ap, subst}
 use mathlib.Core.Bool.{Bool, true, false, not, cond, _&&_, _||_, Bool·beq, true≢false}
 use mathlib.Core.Logic.{_⊎_, inl, inr}
 use mathlib.Core.List.{List, [], _∷_, _++_, foldl, reverse, reverseAux, append-assoc, append-nil, reverse-reverse, List·Memᴰ·head, List·Memᴰ·cases-cons, List·Memᴰ·not-nil, Memᴰ·append-left, Memᴰ·append-right}
 use native.Mathlib.Nat.{le-refl, le-trans}
 use native.Mathlib.Omega.{arith}
-use lib.Dec.{T, leb, ltb, eqb, le→leb}
+use lib.Dec.{T, leb, ltb, le→leb}
 use borrow.Author.Tests.{leb-false, ltb-false, eqb-true, eq-eqb}
 use lib.ListN.{length, take, drop, getD, length-append, length-take, length-drop, take-append-drop, length-reverse, replicate, length-replicate}
 use lib.Seq.{getD-append-add, drop-at}
@@ -16,14 +16,14 @@ use lib.Signed.{leZ, ltZ, ltZ-no}
 use Rattle.model.specs.Constellation.{Bits}
 use Rattle.model.specs.Metric.{Row, Vector, metric, increment, metricOf, labelBits, bitAt}
 use Rattle.model.specs.Soft.{Least, infinite, finite, leastOf, pick, report, places}
-use Rattle.model.specs.Walk.{isLeaf, leaves, clipLimit, smaller, limit, isOpen, anyOf, passes, opposite, passesAfter, children, Progress, withWalked, withCut, visit, walkBelow, walkWhole, walk, cutChildren}
+use Rattle.model.specs.Walk.{isLeaf, leaves, smaller, limit, isOpen, anyOf, passes, opposite, passesAfter, children, Progress, withWalked, withCut, visit, walkBelow, walkWhole, walk}
 use Rattle.model.specs.Block.{_∈_}
 use Rattle.model.specs.Demand.{InCutSubtree, WalkedAndCut}
 use Rattle.integers.proofs.Order.{leZ-trans}
 use Rattle.model.proofs.Lists.{or-left, or-right, any-false, in-upFrom, in-those, of-those}
 use Rattle.model.proofs.Least.{AtMost, pick-in, pick-metric}
 use Rattle.model.proofs.Cut.{_⊆_, Cut, Beyond, bestLimit, cut-mono, exact-report}
-use Rattle.model.proofs.Tree.{children-in, Below, BelowOne, Adds, visit-adds, walk-adds, cut-not-walked}
+use Rattle.model.proofs.Tree.{children-in, BelowOne, Adds, visit-adds, walk-adds, cut-not-walked}
 
 -- The bits above a node are those above its child and the child's symbol
 pub record Split (n q : ℕ) (front : Bits) : Type 0 where

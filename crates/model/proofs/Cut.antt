@@ -1,11 +1,11 @@
 -- What it means that a label was cut, that this lasts as more leaves are walked, and that cut labels change no answer: a cut label is
 -- worse than the best leaf, and at or above the limit of each bit in which it differs from it. A new best leaf only lowers limits, and
 -- where it flips a bit, that bit's U is at most the old B.
-use Prim.Native.Nat.{ℕ, zero, suc, _+_, _-_, _*_, _≤_, _<_}
+use Prim.Native.Nat.{ℕ, _+_, _≤_, _<_}
 use mathlib.Core.Path.{_≡_, refl, sym, _∙_, ap, ap₂, subst}
 use mathlib.Core.Bool.{Bool, true, false, not, cond, Bool·not-not, true≢false}
 use mathlib.Core.Logic.{_⊎_, inl, inr}
-use mathlib.Core.List.{List, [], _∷_, map}
+use mathlib.Core.List.{List}
 use native.Mathlib.Nat.{le-refl, le-trans, le-antisymm, lt-of-le-of-lt}
 use native.Mathlib.Omega.{arith}
 use lib.Dec.{T, le→leb}

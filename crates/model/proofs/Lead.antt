@@ -2,16 +2,16 @@
 -- has at least M nodes, and a vector that may walk M nodes has a walked label.
 use Prim.Native.Nat.{ℕ, zero, suc, _+_, _*_, _≤_, _<_}
 use mathlib.Core.Path.{_≡_, refl, sym, _∙_, ap, subst}
-use mathlib.Core.Bool.{Bool, true, false, cond}
+use mathlib.Core.Bool.{false}
 use mathlib.Core.Logic.{_⊎_, inl, inr}
 use mathlib.Core.List.{List, [], _∷_, _++_, foldl, reverse, append-assoc, append-nil, List·Memᴰ·head, List·Memᴰ·tail, List·Memᴰ·not-nil, List·Memᴰ·cases-cons}
 use native.Mathlib.Omega.{arith}
 use borrow.Author.Tests.{ne-eqb}
 use lib.ListN.{length, take, length-append, length-reverse, replicate, length-replicate}
 use Rattle.model.specs.Constellation.{Bits}
-use Rattle.model.specs.Metric.{Row, Vector, metric, labelBits}
+use Rattle.model.specs.Metric.{Row, Vector, labelBits}
 use Rattle.model.specs.Soft.{leastOf, those}
-use Rattle.model.specs.Walk.{isLeaf, leaves, passes, passesAfter, children, Progress, withWalked, withCut, visit, walkBelow, walkWhole, walk}
+use Rattle.model.specs.Walk.{isLeaf, leaves, passes, children, Progress, withWalked, visit, walkBelow, walkWhole, walk}
 use Rattle.model.specs.Block.{_∈_}
 use Rattle.model.proofs.Lists.{those-snoc}
 use Rattle.model.proofs.Complete.{leaves-in}

@@ -1,9 +1,9 @@
 -- A node's children are tried in strictly rising order, so the next one is the least of those after the last one tried; among equal
 -- partial metrics the smaller symbol label comes first.
-use Prim.Native.Nat.{ℕ, _+_, _<_}
+use Prim.Native.Nat.{ℕ, _+_}
 use mathlib.Core.Path.{_≡_, refl, sym, _∙_, ap, subst}
 use mathlib.Core.Bool.{Bool, true, false, cond, _&&_, _||_, true≢false}
-use mathlib.Core.Logic.{_⊎_, inl, inr, _↔_}
+use mathlib.Core.Logic.{_⊎_, inl, inr}
 use mathlib.Core.List.{List, [], _∷_, _++_, map, append-cancel-right, List·Memᴰ·head, List·Memᴰ·tail, List·Memᴰ·cases-cons, List·Memᴰ·not-nil, Memᴰ·append-right}
 use native.Mathlib.Omega.{arith}
 use lib.Dec.{ltb, eqb}
@@ -17,7 +17,7 @@ use Rattle.model.specs.Block.{_∈_}
 use Rattle.model.proofs.Lists.{of-insert, of-sort, in-sort, Once, once-map, once-symbols}
 use Rattle.model.proofs.Numbers.{number-injective, siblings}
 use Rattle.model.proofs.Ranks.{earlier-trans, earlier-total}
-use Rattle.model.proofs.Tree.{children-length, children-in}
+use Rattle.model.proofs.Tree.{children-length}
 
 -- A strict order, total on a list, in the form that sorting needs
 pub record Strict (A : Type 0) (f : A → A → Bool) (xs : List A) : Type 0 where

@@ -1,7 +1,7 @@
 -- The search that keeps minima gives document 01's answer, under any allowance: after each step it keeps what the walk's first n nodes
 -- give, and it is stopped exactly when there are more.
-use Prim.Native.Nat.{ℕ, zero, suc, _≤_, _<_}
-use mathlib.Core.Path.{_≡_, refl, sym, _∙_, ap, ap₂, subst}
+use Prim.Native.Nat.{ℕ, suc, _≤_, _<_}
+use mathlib.Core.Path.{_≡_, refl, sym, _∙_, ap, ap₂}
 use mathlib.Core.Bool.{Bool, true, false, not, cond, _&&_, _||_}
 use mathlib.Core.List.{List, [], _∷_, _++_, map, foldl, reverse, List·Memᴰ·head}
 use native.Mathlib.Omega.{arith}
@@ -13,10 +13,10 @@ use lib.IntN.{pos}
 use lib.Signed.{ltZ}
 use Rattle.model.specs.Constellation.{Bits, number}
 use Rattle.model.specs.Metric.{Row, Vector, metric, metricOf, labelBits, bitAt, priorAt}
-use Rattle.model.specs.Soft.{Least, infinite, finite, lesser, leastOf, those, hasBit, leastWith, better, pick, softValue, softAt, places}
-use Rattle.model.specs.Walk.{isLeaf, leaves, limit, isOpen, anyOf, passes, opposite, passesAfter, children, Progress, withWalked, withCut, visit, walkBelow, walk}
+use Rattle.model.specs.Soft.{Least, infinite, finite, lesser, leastOf, those, hasBit, leastWith, pick, softValue, softAt, places}
+use Rattle.model.specs.Walk.{isLeaf, leaves, limit, isOpen, passes, passesAfter, children, Progress, withWalked, withCut, visit, walkBelow, walk}
 use Rattle.model.specs.Block.{answer}
-use Rattle.model.specs.Search.{Search, start, oppositeOf, admits, bestAfter, updated, enter, stop, attempt, searchBelow, search, valueAt, outcome}
+use Rattle.model.specs.Search.{Search, start, admits, bestAfter, updated, enter, attempt, searchBelow, search, valueAt, outcome}
 use Rattle.model.proofs.Lists.{map-upFrom, any-upFrom, getD-places, those-snoc}
 use Rattle.model.proofs.Least.{pick-snoc, pick-metric, leastOf-snoc, least-snoc}
 use Rattle.model.proofs.Tree.{Extends, fold-extends, visit-extends}

@@ -5,7 +5,7 @@ use mathlib.Core.Path.{_≡_, refl, sym, _∙_, ap, subst}
 use mathlib.Core.Bool.{Bool, true, false, cond}
 use mathlib.Core.Logic.{_⊎_, inl, inr, ∥∥₁-elim}
 use mathlib.Core.HLevel.{⊥-prop}
-use mathlib.Core.List.{List, [], _∷_, _++_, map, foldl, reverse, append-assoc, append-nil, append-cancel-right, List·Nodup, nodup-nil, nodup-cons, List·Memᴰ·head, List·Memᴰ·tail, List·Memᴰ·cases-cons, List·Memᴰ·not-nil, List·Memᴰ·append-cases, List·Memᴰ·eq-of-singleton, Memᴰ·cast, Memᴰ·map, Memᴰ·of-map}
+use mathlib.Core.List.{List, [], _∷_, _++_, foldl, reverse, append-assoc, append-nil, append-cancel-right, List·Nodup, nodup-nil, nodup-cons, List·Memᴰ·head, List·Memᴰ·tail, List·Memᴰ·cases-cons, List·Memᴰ·not-nil, List·Memᴰ·append-cases, List·Memᴰ·eq-of-singleton, Memᴰ·cast, Memᴰ·map, Memᴰ·of-map}
 use native.Mathlib.Nat.{mul-add, mul-one, mul-suc, mul-comm, suc-mul}
 use native.Mathlib.Omega.{arith}
 use lib.ListN.{length, drop, length-append, length-map, length-reverse}
@@ -14,7 +14,7 @@ use lib.Seq.{drop-at}
 use Rattle.model.specs.Constellation.{Bits, symbols}
 use Rattle.model.specs.Metric.{Row, Vector, metric}
 use Rattle.model.specs.Order.{isBefore}
-use Rattle.model.specs.Walk.{leaves, passesAfter, sort, children, Progress, withWalked, withCut, visit, walkBelow, walkWhole, walk, cutChildren, treeNodes}
+use Rattle.model.specs.Walk.{leaves, passesAfter, children, Progress, withWalked, withCut, visit, walkBelow, walkWhole, walk, cutChildren, treeNodes}
 use Rattle.model.specs.Block.{_∈_}
 use Rattle.model.proofs.Lists.{in-sort, of-sort, in-symbols, symbols-length, symbols-count, length-sort, Once, once-append, once-map, once-sort, once-symbols}
 

@@ -1,11 +1,11 @@
 -- The search of one vector as a program keeps it: no list of nodes or leaves, but a count, a mark, the best label, its metric and two
 -- least metrics for each bit. Code is proved against this; a reader need not believe it, since `outcome (search ..)` is proved to be
 -- the `answer` of document 01 (proofs/Search).
-use Prim.Native.Nat.{ℕ, zero, suc, _+_}
+use Prim.Native.Nat.{ℕ, suc}
 use mathlib.Core.Bool.{Bool, true, false, cond}
-use mathlib.Core.List.{List, [], _∷_, _++_, map, foldl, reverse}
+use mathlib.Core.List.{List, [], _∷_, map, foldl, reverse}
 use lib.Dec.{ltb}
-use lib.ListN.{length, getD}
+use lib.ListN.{getD}
 use lib.IntN.{ℤ}
 use Rattle.model.specs.Constellation.{Bits, number}
 use Rattle.model.specs.Metric.{Row, Vector, metric, metricOf, bitAt, priorAt}

@@ -3,14 +3,14 @@
 // opposite to that label's.
 use metric::AXES;
 ghost use mathlib.Core.Path.{_≡_};
-ghost use Prim.Native.Nat.{_+_, _*_, _-_, _<_, _≤_, _^_, max};
+ghost use Prim.Native.Nat.{_+_, _*_, _<_, _≤_, _^_, max};
 ghost use lib.ListN.{length, getD};
 ghost use Rattle.model.specs.Block.{mostStreams, mostWidth, mostBits};
 ghost use Rattle.metric.specs.Parts.{axisWidth, filledFrom};
 ghost use Rattle.reach.specs.Reach.{limitIn, limitsSize, StreamRight, StandsFor, AxisFilled, axesIn, streamIn, reachesIn, streamReach, chosenReach};
 
 // The places of the array of limits: first a label's bits, then, from here on, the widest limits of the first streams;
-pub const FIRST: usize = 24;
+pub const FIRST: usize = metric::LABEL_BITS;
 
 // then the entries of the axes,
 pub const ENTRIES: usize = 32;

@@ -8,7 +8,7 @@ use lib.ListN.{length, getD}
 use lib.IntN.{ℤ, pos}
 use Rattle.model.specs.Block.{mostStreams, mostWidth, mostBits, mostVectors}
 use Rattle.block.specs.Table.{allowed}
-use Rattle.block.specs.Reading.{countAt, vectorSize}
+use Rattle.block.specs.Reading.{countAt, mostNumbers, vectorSize}
 use Rattle.block.specs.Conditions.{calledFor}
 use Rattle.block.specs.declared.Kind.{Kind}
 use Rattle.block.specs.declared.Kind.the-variants.{StreamCount}
@@ -46,7 +46,7 @@ numberCount numbers = 5 + countAt 2 numbers * vectorSize (countAt 0 numbers) (co
 -- A bound tells of a place, as what the list calls for does, whether a number is called for there; it is no more than any record has
 pub record Called (numbers : List ℤ) (i end : ℕ) : Type 0 where
   pub tells : ltb i end ≡ ltb i (length (calledFor numbers))
-  pub most : end ≤ 3077
+  pub most : end ≤ mostNumbers
 
 -- A verdict with the record's length
 abbrev pub asRead : ℕ → Verdict → Read

@@ -3,12 +3,12 @@ use block::Kind;
 use block::Read;
 use block::Refusal;
 ghost use mathlib.Core.Path.{_≡_};
-ghost use Prim.Native.Nat.{_+_, _*_, _%_, _<_, _≤_};
+ghost use Prim.Native.Nat.{_*_, _%_, _<_, _≤_};
 ghost use lib.ListN.{length, getD, take};
 ghost use lib.Seq.{sets};
 ghost use Rattle.model.specs.Block.{mostStreams, mostWidth, mostBits};
 ghost use Rattle.wire.specs.Writing.{put};
-ghost use Rattle.block.specs.Reading.{kindsOf, matrixRuns, vectorSize};
+ghost use Rattle.block.specs.Reading.{kindsOf, matrixRuns, mostNumbers, vectorSize};
 ghost use Rattle.block.specs.Contents.{headerKinds, kindsOfVector};
 ghost use Rattle.block.specs.Conditions.{calledFor};
 ghost use Rattle.block.specs.declared.Kind.the-variants.{StreamCount};
@@ -172,7 +172,7 @@ pub extern "C" fn geckoneedle_write(numbers: &[i32], record: &mut [u8]) -> i64
 
 // The first numbers of a list, copied into a lent one.
 fn copy(list: &[i32; block::MOST], count: usize, numbers: &mut [i32])
-    requires { ⌜ (count ≤ 3077) × (length (now list) ≡ 3077) × (count ≤ length (now numbers)) ⌝ }
+    requires { ⌜ (count ≤ mostNumbers) × (length (now list) ≡ mostNumbers) × (count ≤ length (now numbers)) ⌝ }
     ensures { λ _. ⌜ now (numbers .exit) ≡ sets (now (numbers .entry)) 0 (take count (now (list .entry))) ⌝ }
 {
     let mut i = 0;
@@ -184,7 +184,7 @@ fn copy(list: &[i32; block::MOST], count: usize, numbers: &mut [i32])
 
 // The numbers of the record that a list holds, handed over if they fit.
 fn hand_over(list: &[i32; block::MOST], numbers: &mut [i32]) -> i64
-    requires { ⌜ Sized (now list) × (length (now list) ≡ 3077) ⌝ }
+    requires { ⌜ Sized (now list) × (length (now list) ≡ mostNumbers) ⌝ }
     ensures { λ r. ⌜ call r (now (numbers .exit))
         ≡ filling (fitted (length (now (numbers .entry))) (take (numberCount (now (list .entry))) (now (list .entry)))) (now (numbers .entry)) ⌝ }
 {

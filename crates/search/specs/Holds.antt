@@ -5,11 +5,11 @@ use mathlib.Core.List.{List}
 use lib.IntN.{ℤ}
 use lib.ListN.{length}
 use Rattle.model.specs.Block.{InRange}
-use Rattle.block.specs.Reading.{countAt}
+use Rattle.block.specs.Reading.{countAt, mostNumbers}
 use Rattle.block.specs.Contents.{vectorNumbers, blockOf}
 use Rattle.leaves.specs.Limits.{SearchAsked}
 
 pub record Holds (list : List ℤ) : Type 0 where
-  pub room : length list ≡ 3077
+  pub room : length list ≡ mostNumbers
   pub ranged : InRange (blockOf list)
   pub each : (k : ℕ) → k < countAt 2 list → SearchAsked (countAt 0 list) (countAt 1 list) (countAt 3 list) (vectorNumbers list k)

@@ -2,7 +2,7 @@
 // kept behind the keys with the column of each.
 use metric::AXES;
 ghost use mathlib.Core.Path.{_≡_};
-ghost use Prim.Native.Nat.{_+_, _*_, _-_, _/_, _<_, _≤_, _^_};
+ghost use Prim.Native.Nat.{_+_, _*_, _<_, _≤_, _^_};
 ghost use lib.ListN.{length, drop};
 ghost use Rattle.model.specs.Block.{mostWidth};
 ghost use Rattle.metric.specs.Parts.{span, filledFrom, AllSmall};

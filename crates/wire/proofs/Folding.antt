@@ -1,6 +1,6 @@
 -- Folding: document 01's sentence as an equation of whole numbers, the size of a folded number, and what it is on either side of a sign
 -- test. By cases of the sign.
-use Prim.Native.Nat.{ℕ, suc, _+_, _*_, _-_, _<_}
+use Prim.Native.Nat.{ℕ, suc, _+_, _*_, _<_}
 use mathlib.Core.Path.{_≡_, refl, subst, ap}
 use mathlib.Core.Bool.{true, false, cond}
 use native.Mathlib.Nat.{not-suc-le-zero}

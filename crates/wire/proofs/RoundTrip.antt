@@ -1,6 +1,6 @@
 -- Reading and writing are inverse, and so are folding and unfolding. Both directions of the number go by induction on the groups that are
 -- left: a group with the high bit is the number's lowest seven bits, and what follows it are the groups of the rest, which is not 0.
-use Prim.Native.Nat.{ℕ, zero, suc, _+_, _*_, _-_, _/_, _%_, _^_, _<_, _≤_}
+use Prim.Native.Nat.{ℕ, zero, suc, _+_, _*_, _/_, _%_, _^_, _<_, _≤_}
 use mathlib.Core.Path.{_≡_, refl, sym, ap, ap₂, _∙_}
 use mathlib.Core.Bool.{Bool, true, false, cond, true≢false}
 use mathlib.Core.List.{List, [], _∷_, _++_}

@@ -1,15 +1,17 @@
 //! The sample records, and what is printed of them.
 //!
-//! `samples ROOT` writes, below the repository's folder ROOT, samples/NAME.rec, samples/NAME.txt (document 01's listing of it),
-//! samples/NAME.numbers (its numbers as a text) and what hosts/detect prints of the samples and of a record for each refusal:
-//! hosts/expected/samples and hosts/expected/refusals. The samples that were written by hand have their numbers from
-//! samples/NAME.numbers, which is read and stays as it is.
+//! `samples ROOT` writes, below the repository's folder ROOT, samples/NAME.rec, samples/NAME.txt
+//! (document 01's listing of it), samples/NAME.numbers (its numbers as a text, where it is made of
+//! numbers) and what hosts/detect prints of the samples and of a record for each refusal:
+//! hosts/expected/samples and hosts/expected/refusals. The samples that were written by hand have their
+//! numbers from samples/NAME.numbers, which is read and stays as it is. Document 01's record and
+//! listing, as they stand there, are the listing program's own test: crates/list/stdin and stdout.
 //! `samples --check ROOT` compares the files there with what it would write. `samples --refusals FOLDER` writes the records for the
 //! refusals, 1.rec to 13.rec and 15.rec.
 
 use reference::listing::{host_lines, listing, reason};
 use reference::record::{encode, Numbers};
-use reference::samples::{all, example, numbers_of, refusals, text_of, WRITTEN};
+use reference::samples::{all, broken, example, numbers_of, refusals, text_of, EXAMPLE_LISTING, WRITTEN};
 use std::path::Path;
 use std::process::ExitCode;
 use std::{env, fs};
@@ -36,13 +38,14 @@ fn main() -> ExitCode {
 }
 
 fn stored_files(root: &Path) -> Result<Vec<File>, String> {
-    let mut files = vec![];
+    let mut files =
+        vec![("crates/list/stdin".to_string(), example()), ("crates/list/stdout".to_string(), EXAMPLE_LISTING.into())];
     let mut printed = String::new();
     for (name, numbers) in all() {
         files.push((format!("samples/{name}.numbers"), text_of(&numbers).into_bytes()));
     }
-    for (name, numbers) in all().into_iter().chain(written(root)?) {
-        let record = encode(&numbers);
+    let numbered = all().into_iter().chain(written(root)?).map(|(name, numbers)| (name, encode(&numbers)));
+    for (name, record) in numbered.chain(broken()) {
         files.push((format!("samples/{name}.txt"), listing(&record).into_bytes()));
         printed += &host_lines(&format!("samples/{name}.rec"), &record);
         files.push((format!("samples/{name}.rec"), record));

@@ -1,7 +1,7 @@
 -- Each test that failed leaves the rest of the list, the one that passed decides.
 use borrow.Author.Needs.{needs}
 use mathlib.Core.Path.{_≡_, sym, _∙_}
-use mathlib.Core.Bool.{true, false}
+use mathlib.Core.Bool.{false}
 use lib.IntN.{pos}
 use mir.Facts.{toZ-ofZ}
 use Rattle.block.specs.Table.{between}

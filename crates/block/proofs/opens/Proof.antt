@@ -1,11 +1,11 @@
 -- The invariant: the whole test is the test from place i on in both lists.
 use mathlib.Core.Path.{_≡_, refl, sym, _∙_}
-use mathlib.Core.Bool.{true, false, _&&_}
+use mathlib.Core.Bool.{_&&_}
 use Prim.Native.Nat.{_≤_, _-_, _+_}
 use native.Mathlib.Omega.{arith}
 use borrow.Author.Tests.{eq-eqb, ne-eqb}
 use lib.Dec.{eqb}
-use lib.ListN.{length, drop, getD}
+use lib.ListN.{drop, getD}
 use Rattle.block.specs.Reading.{opening, startsWith}
 use Rattle.block.proofs.Opening.{starts-short, starts-step}
 use Rattle.block.proofs.opens.Statement.{statement}

@@ -5,7 +5,7 @@ use mir.Syntax.{w32}
 use mir.Facts.{toZ-ofZ}
 use mir.Val.{SFits}
 use Rattle.block.specs.Table.{allowed}
-use Rattle.block.specs.Reading.{wholeOf, byNumber}
+use Rattle.block.specs.Reading.{wholeOf}
 use Rattle.block.proofs.Reading.{by-taken, by-turned}
 use Rattle.block.proofs.ranged.Statement.{statement}
 use Rattle.block.proofs.ranged.Tie as tie

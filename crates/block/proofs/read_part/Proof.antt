@@ -1,14 +1,9 @@
 -- The invariant: the whole part into the list as it was is the runs from the i-th on into the list as it is.
-use borrow.Author.Needs.{needs}
-use mathlib.Core.Path.{_≡_, refl, sym, _∙_, ap}
+use mathlib.Core.Path.{_≡_, refl, sym, _∙_}
 use Prim.Native.Nat.{_≤_, _<_, _-_, _+_}
 use native.Mathlib.Omega.{arith}
-use lib.IntN.{ℤ}
-use lib.ListN.{length, drop, getD, replicate}
-use mathlib.Core.List.{List}
-use Rattle.block.specs.Reading.{noRun, kindsOf, runsOf, numbersAt, partAt, got, into}
-use Rattle.block.specs.declared.Read.{Read}
-use Rattle.block.specs.declared.Run.{Run}
+use lib.ListN.{length, drop}
+use Rattle.block.specs.Reading.{kindsOf, runsOf, numbersAt, partAt, into}
 use Rattle.block.proofs.Runs.{run-room, part-ended, part-refused, part-none}
 use Rattle.block.proofs.read_part.Statement.{statement}
 use Rattle.block.proofs.read_part.Tie as tie

@@ -1,15 +1,15 @@
 -- Behind the opening M is read, and behind M what it calls for; M is read back from the list, where it was stored.
 use borrow.Author.Needs.{needs, sfits-of}
 use borrow.Author.Tests.{not-true, not-false}
-use mathlib.Core.Path.{_≡_, refl, sym, _∙_, ap}
-use mathlib.Core.Bool.{true, false}
+use mathlib.Core.Path.{_≡_, sym, _∙_}
+use mathlib.Core.Bool.{true}
 use native.Mathlib.Omega.{arith}
-use lib.IntN.{ℤ, pos}
-use lib.ListN.{length, getD}
+use lib.IntN.{pos}
+use lib.ListN.{getD}
 use mir.Syntax.{w32}
 use mir.Val.{SFits}
 use mir.Facts.{toZ-ofZ}
-use Rattle.block.specs.Reading.{kindsOf, runsOf, partAt, recordAt, startsWith, opening, got, into}
+use Rattle.block.specs.Reading.{kindsOf, runsOf, partAt, startsWith, opening, got, into}
 use Rattle.block.specs.declared.Read.the-variants.{Ended}
 use Rattle.block.specs.declared.Part.the-variants.{First}
 use Rattle.block.proofs.Parts.{firstAt, first-is, first-at, same-length, record-ended, record-refused, opened, unopened}

@@ -1,5 +1,5 @@
 -- The invariant: the whole run into the list as it was is the rest of the run into the list as it is. Each turn and each exit is one law.
-use mathlib.Core.Path.{_≡_, refl, sym, _∙_, ap}
+use mathlib.Core.Path.{_≡_, sym, _∙_}
 use Prim.Native.Nat.{_≤_, _-_, _+_}
 use native.Mathlib.Omega.{arith}
 use borrow.Author.Needs.{needs, sfits-of}
@@ -7,8 +7,7 @@ use lib.ListN.{replicate}
 use mir.Syntax.{w32}
 use mir.Val.{SFits}
 use mir.Facts.{toZ-ofZ}
-use Rattle.block.specs.Reading.{oneAt, Sure, numbersAt, into}
-use Rattle.block.specs.declared.One.the-variants.{Taken, Turned}
+use Rattle.block.specs.Reading.{Sure, numbersAt, into}
 use Rattle.block.proofs.Reading.{run-none, run-taken, run-turned}
 use Rattle.block.proofs.read_run.Statement.{statement}
 use Rattle.block.proofs.read_run.Tie as tie

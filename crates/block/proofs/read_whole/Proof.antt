@@ -1,8 +1,6 @@
 -- Only where the record ended before the last byte is there a further refusal.
 use borrow.Author.Needs.{needs}
 use borrow.Author.Tests.{lt-ltb, le-ltb}
-use mathlib.Core.Path.{_≡_, refl}
-use Rattle.block.specs.Reading.{atEnd}
 use Rattle.block.proofs.Parts.{whole-ended, whole-refused}
 use Rattle.block.proofs.read_whole.Statement.{statement}
 use Rattle.block.proofs.read_whole.Tie as tie

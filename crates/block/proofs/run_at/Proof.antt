@@ -1,12 +1,12 @@
 -- In each arm the part is known, and what is called there gives its run.
 use borrow.Author.Needs.{needs, sfits-of}
-use mathlib.Core.Path.{_≡_, sym, ap, _∙_}
-use Prim.Native.Nat.{_+_, _*_, _≤_, _<_}
+use mathlib.Core.Path.{_≡_}
+use Prim.Native.Nat.{_<_}
 use native.Mathlib.Omega.{arith}
 use mir.Syntax.{w32}
 use mir.Val.{SFits}
 use mir.Facts.{toZ-ofZ}
-use Rattle.block.specs.Reading.{Small, runsOf}
+use Rattle.block.specs.Reading.{runsOf}
 use Rattle.block.proofs.Runs.{vector-runs}
 use Rattle.block.proofs.run_at.Statement.{statement}
 use Rattle.block.proofs.run_at.Tie as tie

@@ -1,10 +1,10 @@
 -- In each arm the part is known, and so is its list of runs.
 use borrow.Author.Needs.{needs}
-use mathlib.Core.Path.{_≡_, sym, ap, _∙_}
+use mathlib.Core.Path.{sym}
 use Prim.Native.Nat.{_≤_}
 use native.Mathlib.Omega.{arith}
 use Rattle.model.specs.Block.{mostStreams}
-use Rattle.block.specs.Reading.{Small, runsOf}
+use Rattle.block.specs.Reading.{runsOf}
 use Rattle.block.proofs.Runs.{vector-runs}
 use Rattle.block.proofs.run_count.Statement.{statement}
 use Rattle.block.proofs.run_count.Tie as tie

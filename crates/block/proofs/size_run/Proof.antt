@@ -1,5 +1,5 @@
 -- Each arm is an entry of the list.
-use mathlib.Core.Path.{_≡_, sym, ap}
+use mathlib.Core.Path.{_≡_}
 use native.Mathlib.Omega.{arith}
 use mir.Facts.{toZ-ofZ}
 use Rattle.block.specs.Reading.{runsOf}

@@ -1,6 +1,6 @@
 -- Each exit is a place of the list of runs; m, q and the label's bits are small, so nothing wraps.
 use borrow.Author.Needs.{needs}
-use mathlib.Core.Path.{_≡_, sym}
+use mathlib.Core.Path.{sym}
 use native.Mathlib.Omega.{arith}
 use Rattle.block.proofs.Runs.{run-diagonal, run-right, run-received, run-prior}
 use Rattle.block.proofs.vector_run.Statement.{statement}

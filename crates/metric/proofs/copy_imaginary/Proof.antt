@@ -1,7 +1,6 @@
 -- The invariant: the parts of the first g labels are copied.
-use borrow.Author.Needs.{needs}
 use mathlib.Core.Path.{_≡_, refl}
-use Prim.Native.Nat.{_+_, _-_, _≤_, _<_}
+use Prim.Native.Nat.{_-_, _≤_, _<_}
 use native.Mathlib.Omega.{arith}
 use Rattle.metric.specs.Parts.{span, imaginaryIn, filledFrom}
 use Rattle.metric.proofs.Filled.{from-more}

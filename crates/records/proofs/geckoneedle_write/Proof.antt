@@ -10,7 +10,7 @@ use mir.Val.{SFits}
 use mir.Facts.{toZ-ofZ, toZ-pos}
 use Rattle.wire.proofs.Writing.{put-start}
 use Rattle.block.specs.Filling.{call}
-use Rattle.records.specs.Writing.{checked, recordOf}
+use Rattle.records.specs.Writing.{recordOf}
 use Rattle.records.proofs.Writing.{Fine, check-fine, write-short, write-enough, write-refused}
 use Rattle.records.proofs.geckoneedle_write.Statement.{statement}
 use Rattle.records.proofs.geckoneedle_write.Tie as tie

@@ -1,7 +1,7 @@
 -- The children are measured, and the column with the smallest imaginary part gives the smallest of each row, and is kept for each row.
 use borrow.Author.Needs.{needs}
 use Prim.Native.Nat.{_+_, _-_, _/_, _≤_, _<_, _^_}
-use mathlib.Core.Path.{_≡_, ap, _∙_}
+use mathlib.Core.Path.{ap, _∙_}
 use native.Mathlib.Omega.{arith}
 use lib.ListN.{length, getD}
 use lib.Pow.{pow-pos, pow-mono}

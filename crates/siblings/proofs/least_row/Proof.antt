@@ -1,5 +1,5 @@
 -- Of the rows' smallest keys, which stand behind the children's, the first one of the smallest.
-use Prim.Native.Nat.{_-_, _/_, _<_, _^_}
+use Prim.Native.Nat.{_-_, _/_}
 use borrow.Author.Needs.{needs}
 use native.Mathlib.Omega.{arith}
 use lib.Pow.{pow-pos}

@@ -1,4 +1,0 @@
-// The listing program, as in crate list, on another input.
-fn main() {
-    let _ = listing_io::run();
-}
