@@ -13,7 +13,7 @@ use lib.IntN.{ℤ, pos, natAbs}
 use Rattle.model.specs.Soft.{upFrom}
 use Rattle.model.specs.Block.{InRange, mostVectors}
 use Rattle.model.proofs.Lists.{map-upFrom}
-use Rattle.block.specs.Reading.{vectorSize, countAt, readRecord, atEnd, readWhole, Got, got, into}
+use Rattle.block.specs.Reading.{vectorSize, countAt, readRecord, atEnd, readWhole, Got, got, into, mostNumbers}
 use Rattle.block.specs.Contents.{rowsOf, vectorNumbers, vectorRows, blockOf}
 use Rattle.block.specs.declared.Read.{Read}
 use Rattle.block.specs.declared.Read.the-variants.{Ended, Refused}
@@ -75,21 +75,21 @@ ended n (Ended next) at e = go (ltb next n) e
 ended n (Refused r) at e = let z : _≡_ {A = ℕ} 0 1 = cc in absurd (omega arith)
 
 -- All vectors of a block in range are within the list
-pub vectors-fit : (list : List ℤ) → InRange (blockOf list) → 5 + countAt 2 list * vectorSize (countAt 0 list) (countAt 1 list) ≤ 3077
+pub vectors-fit : (list : List ℤ) → InRange (blockOf list) → 5 + countAt 2 list * vectorSize (countAt 0 list) (countAt 1 list) ≤ mostNumbers
 unfolding blockOf
 vectors-fit list h =
     all-fit (countAt 0 list) (countAt 1 list) (countAt 2 list) (h .streams) (h .label)
     (subst (λ (n : ℕ). n ≤ mostVectors) (vectors-count list) (h .vectors))
 
 -- A list of which a record's reading, to its end, made another
-module _ (bytes : List ℕ) (at : ℕ) (list list′ : List ℤ) (room : length list ≡ 3077)
+module _ (bytes : List ℕ) (at : ℕ) (list list′ : List ℤ) (room : length list ≡ mostNumbers)
     (e : got (Ended at) list′ ≡ into 0 (readWhole bytes) list) where
   lent-ended : readRecord bytes .read ≡ Ended at
   unfolding readWhole
   lent-ended = ended (length bytes) (readRecord bytes .read) at (ap (λ (g : Got). g .read) e)
 
   -- The list is as long as before
-  pub lent-room : length list′ ≡ 3077
+  pub lent-room : length list′ ≡ mostNumbers
   lent-room = into-length 0 (readWhole bytes) (Ended at) list list′ e ∙ room
 
   lent-is : list′ ≡ readRecord bytes .numbers ++ drop (length (readRecord bytes .numbers)) list

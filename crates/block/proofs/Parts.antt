@@ -14,7 +14,7 @@ use Rattle.model.specs.Block.{_∈_, widths, mostStreams, mostWidth, mostBits, 
 use Rattle.block.specs.Table.{between, crowded, allowed}
 use Rattle.block.proofs.Ranges.{Plain, between-plain, OneOf, allowed-width, allowed-uncrowded}
 use Rattle.block.proofs.Reading.{one-found}
-use Rattle.block.specs.Reading.{oneAt, Parse, byOne, numbersAt, andThen, kindsOf, runsOf, partAt, vectorSize, vectorsAt, countAt, sizedAt, recordAt, opening, startsWith, readRecord, atEnd, readWhole, Got, got, into}
+use Rattle.block.specs.Reading.{oneAt, Parse, byOne, numbersAt, andThen, kindsOf, runsOf, partAt, vectorSize, vectorsAt, countAt, sizedAt, recordAt, opening, startsWith, readRecord, atEnd, readWhole, Got, got, into, mostNumbers}
 use Rattle.block.specs.declared.Kind.{Kind}
 use Rattle.block.specs.declared.Kind.the-variants.{StreamCount, SymbolWidth}
 use Rattle.block.specs.declared.One.{One}
@@ -153,7 +153,7 @@ module _ (m : ℤ) (bytes : List ℕ) (at next : ℕ) (list list′ : List ℤ) 
   sizes-are = sized m _ (all-allowed (kindsOf (runsOf (Sizes m))) bytes at next (sym (ap (λ (g : Got). g .read) e)))
 
   -- Entry 1 + j of the list is the j-th of them
-  pub size-at : length list ≡ 3077 → (j : ℕ) → j < 4 → getD list′ (1 + j) (pos 0) ≡ getD (sizesAt m bytes at) j (pos 0)
+  pub size-at : length list ≡ mostNumbers → (j : ℕ) → j < 4 → getD list′ (1 + j) (pos 0) ≡ getD (sizesAt m bytes at) j (pos 0)
   size-at len j h =
       ap (λ (g : Got). getD (g .list) (1 + j) (pos 0)) e
       ∙ getD-sets list (partAt (Sizes m) bytes at .numbers) 1 j (pos 0) (omega (arith, sizes-are .many, len)) (omega (arith, sizes-are .many))
@@ -171,7 +171,7 @@ unfolding sizedAt
 sized-refused m bytes at r list list′ e = then-refused (partAt (Sizes m) bytes at) _ 1 list list′ r e
 
 -- All vectors of a record fit the list behind the header
-pub all-fit : (m q n : ℕ) → m ≤ mostStreams → m * q ≤ mostBits → n ≤ mostVectors → 5 + n * vectorSize m q ≤ 3077
+pub all-fit : (m q n : ℕ) → m ≤ mostStreams → m * q ≤ mostBits → n ≤ mostVectors → 5 + n * vectorSize m q ≤ mostNumbers
 all-fit m q n h k l =
     let most : vectorSize m q ≤ 48 = omega (arith, mul-le-mul h h) in
     omega (arith, mul-le-mul l most)
@@ -229,7 +229,7 @@ module _ (bytes : List ℕ) (at next : ℕ) (list list′ : List ℤ) (e : got (
   pub first-is : Counted (firstAt bytes at)
   first-is = counted _ (all-allowed (kindsOf (runsOf First)) bytes at next (sym (ap (λ (g : Got). g .read) e)))
 
-  pub first-at : length list ≡ 3077 → getD list′ 0 (pos 0) ≡ getD (firstAt bytes at) 0 (pos 0)
+  pub first-at : length list ≡ mostNumbers → getD list′ 0 (pos 0) ≡ getD (firstAt bytes at) 0 (pos 0)
   first-at len =
       ap (λ (g : Got). getD (g .list) 0 (pos 0)) e
       ∙ getD-sets list (firstAt bytes at) 0 0 (pos 0) (omega (arith, first-is .many, len)) (omega (arith, first-is .many))

@@ -14,7 +14,7 @@ use Rattle.wire.proofs.Writing.{bytesOf-short, bytesOf-most}
 use Rattle.wire.proofs.RoundTrip.{unfolded-below, read-ends}
 use Rattle.model.specs.Block.{mostStreams, mostBits, mostVectors, mostEntry, mostReceived, mostPrior}
 use Rattle.block.specs.Table.{between, allowed}
-use Rattle.block.specs.Reading.{wholeOf, oneAt, numbersAt, run, kindsOf, matrixRuns, runsOf, countAt, readRecord}
+use Rattle.block.specs.Reading.{wholeOf, oneAt, numbersAt, run, kindsOf, matrixRuns, runsOf, countAt, readRecord, longestRecord}
 use Rattle.block.specs.Contents.{blockOf, vectorKinds, recordKinds}
 use Rattle.block.specs.declared.Kind.{Kind}
 use Rattle.block.specs.declared.Kind.the-variants.{StreamCount, SymbolWidth, VectorCount, ClipLevel, NodeShare}
@@ -122,7 +122,7 @@ unfolding recordKinds mostOf kindsOf runsOf
 most-record numbers = omega (arith, most-vectors (countAt 2 numbers) (countAt 0 numbers) (countAt 1 numbers))
 
 -- An accepted record is at most 8,207 bytes
-pub accepted-size : (bytes : List ℕ) (at : ℕ) → readRecord bytes .read ≡ Ended at → at ≤ 8207
+pub accepted-size : (bytes : List ℕ) (at : ℕ) → readRecord bytes .read ≡ Ended at → at ≤ longestRecord
 unfolding blockOf
 accepted-size bytes at e =
     let numbers = readRecord bytes .numbers in

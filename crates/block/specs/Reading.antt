@@ -103,6 +103,10 @@ partAt p bytes at = numbersAt (kindsOf (runsOf p)) bytes at
 abbrev pub mostNumbers : ℕ
 mostNumbers = 3077
 
+-- How many bytes a record has at most: four streams of 6 bits, 64 vectors, each number in its most groups
+abbrev pub longestRecord : ℕ
+longestRecord = 8207
+
 -- How many numbers a vector has
 abbrev pub vectorSize : ℕ → ℕ → ℕ
 vectorSize m q = m * m + 2 * m + m * q

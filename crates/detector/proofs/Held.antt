@@ -9,6 +9,7 @@ use native.Mathlib.Omega.{arith}
 use lib.IntN.{ℤ, pos}
 use lib.ListN.{length, getD, take, drop, length-append, length-drop, List·getD-append, drop-of-length-le}
 use lib.Seq.{drop-cons, take-at}
+use Rattle.wire.specs.Writing.{Wrote}
 use Rattle.model.specs.Metric.{Vector, labelBits}
 use Rattle.model.specs.Block.{vectorOf, Answer, answer, answersFrom, Every, VectorInRange, mostWidth, mostBits}
 use Rattle.model.proofs.Lists.{in-upFrom}
@@ -18,11 +19,11 @@ use Rattle.wire.specs.Folding.{folded}
 use Rattle.block.specs.Reading.{countAt}
 use Rattle.block.specs.Contents.{vectorRows, blockOf}
 use Rattle.block.proofs.Places.{vectors-count, vector-at}
-use Rattle.pruning.specs.Program.{answerOf}
+use Rattle.search_spec.specs.Program.{answerOf}
 use Rattle.search.specs.Values.{Answered}
-use Rattle.detector.specs.Reply.{markOf, answerNumbers, answersNumbers, written, replyRoom}
+use Rattle.detector.specs.Reply.{markOf, answerNumbers, answersNumbers, written, replyRoom, mostReply}
 use Rattle.search.specs.Holds.{Holds}
-use Rattle.detector.specs.Steps.{Wrote, Heads, SoftAsked, FoundAsked, SearchOneAsked, allowanceAt, answerAt}
+use Rattle.detector.specs.Steps.{Heads, SoftAsked, FoundAsked, SearchOneAsked, allowanceAt, answerAt}
 use Rattle.detector.specs.declared.Header.{Header}
 use Rattle.detector.proofs.Replies.{Short, soft-count, bits-are, count-short, label-short, soft-short, answer-room}
 use Rattle.detector.proofs.Replies.{written-append, written-first}
@@ -77,7 +78,7 @@ module _ {h : Header} {list : List ℤ} (held : Holds list) (headed : Heads h li
   total-fits = omega (arith, total-is headed, total-small (blockOf list) (held .ranged))
 
   -- The room is small
-  pub room-small : replyRoom (blockOf list) ≤ 6727
+  pub room-small : replyRoom (blockOf list) ≤ mostReply
   room-small =
       let each : 9 + 4 * h .streams * h .width ≤ 105 = omega (arith, mul-assoc 4 (h .streams) (h .width), few-soft) in
       omega (arith, room-is headed, mul-le-mul few-vectors each)

@@ -6,7 +6,7 @@ use borrow.Author.Tests.{lt-ltb, le-ltb}
 use lib.IntN.{ℤ}
 use lib.ListN.{length}
 use Rattle.model.specs.Block.{Block}
-use Rattle.block.specs.Reading.{readWhole, Got, got, into}
+use Rattle.block.specs.Reading.{readWhole, Got, got, into, mostNumbers}
 use Rattle.block.specs.Contents.{blockOf}
 use Rattle.block.specs.declared.Refusal.{Refusal}
 use Rattle.block.specs.declared.Refusal.the-variants.{Buffer}
@@ -28,7 +28,7 @@ module _ (room : ℕ) (b : Block) where
 
 module _ (bytes : List ℕ) (room : ℕ) (list list′ : List ℤ) where
   -- A record that was read into the lent list, and one that was refused
-  pub when-ended : (at : ℕ) → length list ≡ 3077 → got (Ended at) list′ ≡ into 0 (readWhole bytes) list
+  pub when-ended : (at : ℕ) → length list ≡ mostNumbers → got (Ended at) list′ ≡ into 0 (readWhole bytes) list
       → outcome bytes room ≡ byRoom room (blockOf list′)
   unfolding outcome
   when-ended at size e = rw (← ap (λ (g : Got). g .read) e, lent-block bytes at list list′ size e)

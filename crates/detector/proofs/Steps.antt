@@ -7,11 +7,10 @@ use native.Mathlib.Omega.{arith}
 use lib.IntN.{ℤ, pos}
 use lib.ListN.{length, getD, take, drop, length-append}
 use lib.Seq.{drop-cons}
-use Rattle.wire.specs.Writing.{bytesOf, put}
+use Rattle.wire.specs.Writing.{bytesOf, put, Wrote}
 use Rattle.wire.specs.Folding.{folded}
 use Rattle.wire.proofs.Writing.{put-length, put-nil, put-append}
 use Rattle.detector.specs.Reply.{written}
-use Rattle.detector.specs.Steps.{Wrote}
 
 -- A buffer keeps its length
 pub wrote-length : {l : List ℕ} {at : ℕ} {bs after : List ℕ} {next : ℕ} → Wrote l at bs after next → length after ≡ length l

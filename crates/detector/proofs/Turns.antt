@@ -7,13 +7,14 @@ use native.Mathlib.Numerals.{add-one}
 use native.Mathlib.Omega.{arith}
 use lib.IntN.{ℤ}
 use lib.ListN.{length}
+use Rattle.wire.specs.Writing.{Wrote}
 use Rattle.model.specs.Block.{answers}
 use Rattle.block.specs.Contents.{blockOf}
 use Rattle.detector.specs.Reply.{replyOpening, answerNumbers, answersNumbers, written, replyOf, replyRoom}
 use Rattle.constellation.specs.Points.{Points}
 use Rattle.search.specs.Limits.{keyPlaces}
 use Rattle.search.specs.Holds.{Holds}
-use Rattle.detector.specs.Steps.{Wrote, Heads, StepAsked, answerAt}
+use Rattle.detector.specs.Steps.{Heads, StepAsked, answerAt}
 use Rattle.detector.specs.declared.Header.{Header}
 use Rattle.detector.proofs.Replies.{written-append}
 use Rattle.detector.proofs.Steps.{wrote-length, Left, left-all, left-more, left-none}

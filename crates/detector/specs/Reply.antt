@@ -40,3 +40,7 @@ replyOf b = replyOpening ++ written (replyNumbers b)
 -- The buffer that a reply asks for: "7 + N × (9 + 4 × M × Q)"
 unfoldable pub replyRoom : Block → ℕ
 replyRoom b = 7 + length (b .vectors) * (9 + 4 * b .streams * b .width)
+
+-- The most that it can be
+abbrev pub mostReply : ℕ
+mostReply = 6727

@@ -15,11 +15,6 @@ use Rattle.search.specs.Limits.{keyPlaces}
 use Rattle.search.specs.Holds.{Holds}
 use Rattle.detector.specs.declared.Header.{Header}
 
--- The bytes bs were put into the buffer l from a place on, and ended where the next ones begin
-pub record Wrote (l : List ℕ) (at : ℕ) (bs after : List ℕ) (next : ℕ) : Type 0 where
-  pub ends : next ≡ at + length bs
-  pub leaves : after ≡ put l at bs
-
 -- A header is that of the lent list
 pub record Heads (h : Header) (list : List ℤ) : Type 0 where
   pub streams-is : h .streams ≡ countAt 0 list

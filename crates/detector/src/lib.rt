@@ -4,11 +4,12 @@ use block::Refusal;
 use constellation::PLACES;
 use metric::LABEL_BITS;
 use search::Found;
-use search::Task;
+use tree::Task;
 ghost use mathlib.Core.Path.{_≡_};
 ghost use mathlib.Core.List.{[], _∷_, _++_, map};
 ghost use Prim.Native.Nat.{_+_, _-_, _*_, _<_, _≤_};
 ghost use lib.ListN.{length, take};
+ghost use Rattle.wire.specs.Writing.{Wrote};
 ghost use Rattle.wire.specs.Folding.{folded};
 ghost use Rattle.model.specs.Block.{vectorOf, mostStreams, mostWidth, mostBits, mostVectors};
 ghost use Rattle.block.specs.Reading.{mostNumbers};
@@ -18,7 +19,7 @@ ghost use Rattle.detector.specs.Reply.{replyOpening, markOf, answerNumbe
 ghost use Rattle.block.specs.Filling.{returned, bufferAfter};
 ghost use Rattle.detector.specs.Outcome.{outcome, byRoom};
 ghost use Rattle.search.specs.Holds.{Holds};
-ghost use Rattle.detector.specs.Steps.{Wrote, Heads, answerAt};
+ghost use Rattle.detector.specs.Steps.{Heads, answerAt};
 ghost use Rattle.detector.specs.Steps.{SoftAsked, FoundAsked, AllowanceAsked, SearchOneAsked, StepAsked, ReplyAsked};
 
 // A record's M, Q, N, C and D.
@@ -35,6 +36,9 @@ struct Step {
     at: usize,
     spent: u32,
 }
+
+// The most room that a reply asks for.
+pub const MOST_REPLY: usize = 6727;
 
 const OPENING: [u8; 4] = [0x43, 0x42, 0x53, 0x31];
 
@@ -166,6 +170,7 @@ fn answer_all(numbers: &[i32], h: Header, reply: &mut [u8]) -> usize
 {
     let mut points = [0i8; PLACES];
     constellation::fill(h.width, &mut points);
+    // Room for every search to work in, cleared once a record.
     let mut keys = [0u64; search::KEYS];
     let mut soft = [0i32; LABEL_BITS];
     let mut step = Step {
@@ -208,7 +213,7 @@ pub extern "C" fn geckoneedle_detect(record: &[u8], reply: &mut [u8]) -> i64
     ensures { λ r. ⌜ (r ≡ returned (outcome (now («record» .entry)) (length (now (reply .entry)))))
         × (now (reply .exit) ≡ bufferAfter (outcome (now («record» .entry)) (length (now (reply .entry)))) (now (reply .entry))) ⌝ }
 {
-    let mut numbers = [0i32; block::MOST];
+    let mut numbers = [0i32; block::MOST_NUMBERS];
     match block::read_whole(record, &mut numbers) {
         Read::Ended(_) => reply_to(&numbers, reply),
         Read::Refused(refusal) => block::refused(refusal),

@@ -11,7 +11,7 @@ ghost use Rattle.list.specs.Input.{Within};
 
 // How many bytes are read at most: one more than the longest record has, so that a longer input is
 // seen to be too long.
-const MOST: usize = 8208;
+const INPUT: usize = block::MOST_BYTES + 1;
 
 // How many bytes of the buffer the input fills; or a read failed.
 enum Input {
@@ -53,13 +53,13 @@ fn write(record: &[u8], text: &[u8])
 
 // Prints the listing of a record.
 fn print(record: &[u8]) {
-    let mut text = [0u8; listing::MOST];
+    let mut text = [0u8; listing::MOST_TEXT];
     let n = listing::list(record, &mut text);
     write(record, &text[..n]);
 }
 
 fn main() {
-    let mut input = [0u8; MOST];
+    let mut input = [0u8; INPUT];
     match read_input(&mut input) {
         Input::Bytes(n) => print(&input[..n]),
         Input::Failed => complain(b"Standard input could not be read.\n"),

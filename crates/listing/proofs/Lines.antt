@@ -18,7 +18,7 @@ use Rattle.search.specs.Holds.{Holds}
 use Rattle.detector.specs.Reply.{answerNumbers, answersNumbers}
 use Rattle.detector.specs.Steps.{answerAt}
 use Rattle.detector.proofs.Steps.{wrote-length, Left, left-all, left-more, left-none}
-use Rattle.listing.specs.Text.{lineEnd, totalWord, field, headLine, vectorLine, linesFrom, totalLine, blockText}
+use Rattle.listing.specs.Text.{lineEnd, totalWord, field, headLine, vectorLine, linesFrom, totalLine, blockText, mostLine}
 use Rattle.listing.specs.Replied.{Stand}
 use Rattle.listing.specs.Steps.{Sized, NumberedAsked, Numbered, VectorsAsked, VectorsListed}
 use Rattle.listing.specs.declared.Sizes.{Sizes}
@@ -94,7 +94,7 @@ pub record Listing (list : List ℤ) (reply text : List ℕ) (from n : ℕ) (now
   pub all : n ≡ countAt 2 list
   pub inside : k ≤ n
   pub same : length now ≡ length text
-  pub room : step .at ≤ from + k * 341
+  pub room : step .at ≤ from + k * mostLine
   pub stands : Stand reply (step .place) (numbersLeft list (step .total) k)
   pub nodes : step .total + nodesLeft list (step .total) k ≡ nodesLeft list 0 0
   pub rest : Left text from (linesLeft list 0 0) now (step .at) (linesLeft list (step .total) k)

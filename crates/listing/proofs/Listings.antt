@@ -7,27 +7,27 @@ use native.Mathlib.Omega.{arith}
 use lib.IntN.{ℤ}
 use lib.ListN.{length, drop, length-append}
 use lib.Seq.{length-take-le}
+use Rattle.wire.specs.Writing.{Wrote}
 use Rattle.io.specs.Counts.{Counts}
 use Rattle.wire.proofs.Writing.{put-start}
 use Rattle.block.specs.Table.{refusalNumber}
-use Rattle.block.specs.Reading.{countAt, readWhole, Got, got, into}
+use Rattle.block.specs.Reading.{countAt, readWhole, Got, got, into, mostNumbers}
 use Rattle.block.specs.Contents.{blockOf}
 use Rattle.block.specs.declared.Refusal.{Refusal}
 use Rattle.block.specs.declared.Read.the-variants.{Ended, Refused}
 use Rattle.block.proofs.Lent.{lent-block}
 use Rattle.search.specs.Holds.{Holds}
 use Rattle.search.proofs.Records.{lent-holds}
-use Rattle.detector.specs.Reply.{replyOf, replyRoom}
+use Rattle.detector.specs.Reply.{replyOf, replyRoom, mostReply}
 use Rattle.block.specs.Filling.{filled}
 use Rattle.detector.specs.Outcome.{outcome}
-use Rattle.detector.specs.Steps.{Wrote}
 use Rattle.detector.proofs.Replies.{reply-room}
 use Rattle.detector.proofs.Held.{room-small}
 use Rattle.detector.proofs.Outcomes.{room-enough, when-ended}
 use Rattle.listing.specs.Text.{lineEnd, refusedWord, field, blockText, refusedLine, listingOf}
 
 -- A reply's room is small
-reply-small : {list : List ℤ} → Holds list → replyRoom (blockOf list) ≤ 6727
+reply-small : {list : List ℤ} → Holds list → replyRoom (blockOf list) ≤ mostReply
 reply-small {list} held =
     room-small
     {h = record {
@@ -39,7 +39,7 @@ reply-small {list} held =
     }}
     held (record { streams-is = refl; width-is = refl; vectors-is = refl; clip-is = refl; share-is = refl })
 
-pub reply-fits : {list : List ℤ} → Holds list → length (replyOf (blockOf list)) ≤ 6727
+pub reply-fits : {list : List ℤ} → Holds list → length (replyOf (blockOf list)) ≤ mostReply
 reply-fits {list} held = le-trans (reply-room (blockOf list) (held .ranged)) (reply-small held)
 
 -- All of a text that was written from the start on
@@ -53,12 +53,12 @@ whole {text} {bs} {all} {after} {r} e fits w =
 
 module _ (bytes : List ℕ) (list list′ : List ℤ) where
   -- Of a record that was read into the lent list
-  module _ (at : ℕ) (size : length list ≡ 3077) (e : got (Ended at) list′ ≡ into 0 (readWhole bytes) list) where
+  module _ (at : ℕ) (size : length list ≡ mostNumbers) (e : got (Ended at) list′ ≡ into 0 (readWhole bytes) list) where
     pub listed-block : listingOf bytes ≡ blockText (blockOf list′)
     unfolding listingOf
     listed-block = rw (← ap (λ (g : Got). g .read) e, lent-block bytes at list list′ size e)
 
-    pub replied-block : (room : ℕ) → 6727 ≤ room → outcome bytes room ≡ filled (replyOf (blockOf list′))
+    pub replied-block : (room : ℕ) → mostReply ≤ room → outcome bytes room ≡ filled (replyOf (blockOf list′))
     replied-block room enough =
         when-ended bytes room list list′ at size e
         ∙ room-enough room (blockOf list′) (le-trans (reply-small (lent-holds bytes at list list′ size e)) enough)

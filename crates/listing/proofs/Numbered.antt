@@ -11,7 +11,7 @@ use lib.Seq.{take-add, take-take, drop-at, drop-drop, length-take-le}
 use Rattle.model.specs.Metric.{allPriors}
 use Rattle.model.specs.Block.{Answer, vectorOf}
 use Rattle.wire.specs.Folding.{folded}
-use Rattle.block.specs.Reading.{countAt, vectorSize}
+use Rattle.block.specs.Reading.{countAt, vectorSize, mostNumbers}
 use Rattle.block.specs.Contents.{vectorNumbers, vectorRows, blockOf}
 use Rattle.block.proofs.Places.{rows-count, all-priors}
 use Rattle.search.specs.Holds.{Holds}
@@ -60,7 +60,7 @@ module _ {h : Sizes} {list : List ℤ} (held : Holds list) (sized : Sized h list
   end-is = rw (sized .vector-is, add-one k) (omega (arith, suc-mul k (vectorSize m q)))
 
   -- It ends within the list, and its priors within it
-  pub end-small : end ≤ 3077
+  pub end-small : end ≤ mostNumbers
   end-small = omega (arith, end-is, vector-end list held m q refl refl k inside)
 
   bits-few : h .bits ≤ 24

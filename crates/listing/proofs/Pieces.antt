@@ -11,9 +11,9 @@ use lib.IntN.{ℤ, pos, negsuc, natAbs}
 use lib.Signed.{ltZ}
 use lib.ListN.{length, getD, set, drop}
 use lib.Seq.{drop-cons, drop-length}
+use Rattle.wire.specs.Writing.{Wrote}
 use Rattle.wire.proofs.Writing.{put-nil, put-cons}
 use Rattle.wire.specs.Folding.{unfolded}
-use Rattle.detector.specs.Steps.{Wrote}
 use Rattle.detector.proofs.Steps.{wrote-both, Left, left-more, left-none}
 use Rattle.listing.specs.Text.{decimalOf, field, blank, minus, valueText, softText}
 

@@ -4,14 +4,15 @@ use mathlib.Core.Path.{_≡_}
 use mathlib.Core.List.{List}
 use lib.IntN.{ℤ}
 use lib.ListN.{length}
+use Rattle.wire.specs.Writing.{Wrote}
 use Rattle.model.specs.Metric.{allPriors}
 use Rattle.model.specs.Block.{answers, totalCount}
 use Rattle.block.specs.Reading.{countAt, vectorSize}
 use Rattle.block.specs.Contents.{vectorRows, blockOf}
 use Rattle.search.specs.Holds.{Holds}
 use Rattle.detector.specs.Reply.{answerNumbers, answersNumbers}
-use Rattle.detector.specs.Steps.{Wrote, answerAt}
-use Rattle.listing.specs.Text.{vectorLine, linesFrom}
+use Rattle.detector.specs.Steps.{answerAt}
+use Rattle.listing.specs.Text.{vectorLine, linesFrom, mostLine, mostText}
 use Rattle.listing.specs.Replied.{placeAfter, Stand}
 use Rattle.listing.specs.declared.Sizes.{Sizes}
 use Rattle.listing.specs.declared.Progress.{Progress}
@@ -27,14 +28,14 @@ pub record NumberedAsked (h : Sizes) (list : List ℤ) (reply : List ℕ) (k : �
   pub sized : Sized h list
   pub inside : k < countAt 2 list
   pub stands : Stand reply (step .place) (answerNumbers (answerAt list (step .total) k))
-  pub buffer : step .at + 341 ≤ room
+  pub buffer : step .at + mostLine ≤ room
   pub sum : step .total + answerAt list (step .total) k .count < 2 ^ 32
 
 -- What it leaves: the line of its answer and its priors, "its number from 1", and its nodes in the total
 pub record Numbered (text : List ℕ) (list : List ℤ) (reply : List ℕ) (k : ℕ) (step : Progress) (after : List ℕ) (next : Progress)
     : Type 0 where
   pub line : Wrote text (step .at) (vectorLine (k + 1) (answerAt list (step .total) k) (allPriors (vectorRows list k))) after (next .at)
-  pub room : next .at ≤ step .at + 341
+  pub room : next .at ≤ step .at + mostLine
   pub place-is : next .place ≡ placeAfter (length (answerNumbers (answerAt list (step .total) k))) reply (step .place)
   pub total-is : next .total ≡ step .total + answerAt list (step .total) k .count
 
@@ -42,16 +43,16 @@ pub record Numbered (text : List ℕ) (list : List ℤ) (reply : List ℕ) (k : 
 pub record VectorsAsked (list : List ℤ) (reply : List ℕ) (at room : ℕ) : Type 0 where
   pub held : Holds list
   pub stands : Stand reply 7 (answersNumbers (answers (blockOf list)))
-  pub buffer : at + 64 * 341 ≤ room
+  pub buffer : at + 64 * mostLine ≤ room
 
 -- What they leave: these lines, and the nodes of all vectors
 pub record VectorsListed (text : List ℕ) (list : List ℤ) (at : ℕ) (after : List ℕ) (next : Progress) : Type 0 where
   pub lines : Wrote text at (linesFrom 1 (blockOf list .vectors) (answers (blockOf list))) after (next .at)
-  pub room : next .at ≤ at + 64 * 341
+  pub room : next .at ≤ at + 64 * mostLine
   pub total-is : next .total ≡ totalCount (answers (blockOf list))
 
 -- What the listing of a block asks: its answers in the reply, and room for any listing
 pub record BlockAsked (list : List ℤ) (reply : List ℕ) (room : ℕ) : Type 0 where
   pub held : Holds list
   pub stands : Stand reply 7 (answersNumbers (answers (blockOf list)))
-  pub buffer : 21928 ≤ room
+  pub buffer : mostText ≤ room

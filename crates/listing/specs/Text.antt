@@ -118,8 +118,15 @@ byRead numbers (Refused r) = refusedLine (refusalNumber r)
 unfoldable pub listingOf : List ℕ → List ℕ
 listingOf bytes = byRead (readWhole bytes .numbers) (readWhole bytes .read)
 
+-- The most bytes of a vector's line, and of a listing: a first line of at most 87, 64 vectors, a last line of at most 17
+abbrev pub mostLine : ℕ
+mostLine = 341
+
+abbrev pub mostText : ℕ
+mostText = 21928
+
 -- What a vector's line asks: a mark, nodes, a label and a value for each prior, at most 24 of these; and room for any such line
 pub record LineAsked (at numbers bits room : ℕ) : Type 0 where
   pub all : numbers ≡ 3 + bits
   pub few : bits ≤ 24
-  pub buffer : at + 341 ≤ room
+  pub buffer : at + mostLine ≤ room

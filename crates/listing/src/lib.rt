@@ -8,19 +8,18 @@ ghost use lib.Dec.{eqb};
 ghost use lib.ListN.{length, drop};
 ghost use Rattle.io.specs.Counts.{Counts};
 ghost use Rattle.wire.specs.Folding.{unfolded};
-ghost use Rattle.wire.specs.Writing.{put};
+ghost use Rattle.wire.specs.Writing.{put, Wrote};
 ghost use Rattle.block.specs.Contents.{blockOf};
 ghost use Rattle.search.specs.Holds.{Holds};
-ghost use Rattle.detector.specs.Steps.{Wrote};
 ghost use Rattle.listing.specs.Against.{against, negativeMark, nonzeroMark};
 ghost use Rattle.listing.specs.Replied.{takenAt, numbersFrom, placeAfter, VectorAsked, Listed};
 ghost use Rattle.listing.specs.Text.{lineEnd, decimalOf, field, stateWord, valueText, softText, headLine, vectorLine};
 ghost use Rattle.detector.specs.ReadBack.{answerFrom};
-ghost use Rattle.listing.specs.Text.{LineAsked, blockText, listingOf};
+ghost use Rattle.listing.specs.Text.{mostLine, mostText, LineAsked, blockText, listingOf};
 ghost use Rattle.listing.specs.Steps.{Sized, NumberedAsked, Numbered, VectorsAsked, VectorsListed, BlockAsked};
 
 // Room for the listing of any record: a first line of at most 87 bytes, 64 lines of at most 341, a last one of at most 17.
-pub const MOST: usize = 21928;
+pub const MOST_TEXT: usize = 21928;
 
 // A number of the reply, and the place after it.
 struct Taken {
@@ -154,7 +153,7 @@ fn write_soft(text: &mut [u8], at: usize, folds: &[u32]) -> usize
 // The line of a vector with a number, from its part of the reply and its priors; the place after it.
 fn write_line(text: &mut [u8], at: usize, number: u32, answer: &[u32], priors: &[i32]) -> usize
     requires { ⌜ LineAsked at (length (now answer)) (length (now priors)) (length (now text)) ⌝ }
-    ensures { λ r. ⌜ (r ≤ at + 341)
+    ensures { λ r. ⌜ (r ≤ at + mostLine)
         × Wrote (now (text .entry)) at (vectorLine number (answerFrom (now (answer .entry))) (now (priors .entry))) (now (text .exit)) r ⌝ }
 {
     let label = answer[2];
@@ -294,7 +293,7 @@ fn write_vectors(text: &mut [u8], numbers: &[i32], reply: &[u8], at: usize) -> P
 // The listing of the record that the lent list holds, with its reply; the place after it.
 fn write_block(text: &mut [u8], numbers: &[i32], reply: &[u8]) -> usize
     requires { ⌜ BlockAsked (now numbers) (now reply) (length (now text)) ⌝ }
-    ensures { λ r. ⌜ (r ≤ 21928) × Wrote (now (text .entry)) 0 (blockText (blockOf (now (numbers .entry)))) (now (text .exit)) r ⌝ }
+    ensures { λ r. ⌜ (r ≤ mostText) × Wrote (now (text .entry)) 0 (blockText (blockOf (now (numbers .entry)))) (now (text .exit)) r ⌝ }
 {
     let m = block::count_at(numbers, 0);
     let q = block::count_at(numbers, 1);
@@ -307,15 +306,15 @@ fn write_block(text: &mut [u8], numbers: &[i32], reply: &[u8]) -> usize
 }
 
 // The listing of any bytes, as document 01 prints it; its length. What stands behind it in the text stays.
-pub fn list(record: &[u8], text: &mut [u8; MOST]) -> usize
+pub fn list(record: &[u8], text: &mut [u8; MOST_TEXT]) -> usize
     ensures { λ r. ⌜ r ≡ length (listingOf (now («record» .entry))) ⌝ }
     ensures { λ r. ⌜ now (text .exit) ≡ listingOf (now («record» .entry)) ++ drop r (now (text .entry)) ⌝ }
     ensures { λ r. ⌜ Counts r (now (text .exit)) ⌝ }
 {
-    let mut numbers = [0i32; block::MOST];
+    let mut numbers = [0i32; block::MOST_NUMBERS];
     match block::read_whole(record, &mut numbers) {
         Read::Ended(_) => {
-            let mut reply = [0u8; 6727];
+            let mut reply = [0u8; detector::MOST_REPLY];
             let n = detector::geckoneedle_detect(record, &mut reply);
             write_block(text, &numbers, &reply[..n as usize])
         }

@@ -9,7 +9,7 @@ use lib.ListN.{length, take}
 use Rattle.model.specs.Constellation.{Complex, number, bitsOf, symbols, amplitude, point}
 use Rattle.model.specs.Metric.{Row, dot, residual, priorCost, increment, metric, allPriors}
 use Rattle.model.specs.Order.{earlier}
-use Rattle.model.specs.Soft.{leastOf, those, pick, upFrom}
+use Rattle.model.specs.Soft.{finite, leastOf, those, pick, upFrom, softValue}
 use Rattle.model.specs.Walk.{passes, insert, sort, children, walkBelow}
 use Rattle.model.specs.Block.{Block, vectorOf, Answer, answer, allowance, answersFrom, answers}
 use Rattle.model.specs.Search.{start, enter, searchBelow, search, outcome}
@@ -89,7 +89,22 @@ pub listed : found listing ≡ stated listing
 unfolding found stated listing
 listed = refl
 
--- The trap of 000's eq. 31: better and better leaves, where clipping from below at each would show; then a tie between labels decides
+-- Document 01's example against 000's eq. 31: "Leaves 10, 12, 8, 6, the bit opposite only in 12, its prior 10 for the best one's bit, C = 3:
+-- that gives -1; the right value is -3". Of the two minima
+pub eq31-value : softValue 3 3 (pos 10) (finite 12) (finite 6) ≡ minus 3
+eq31-value = refl
+
+-- and as a block. R rows (1, 1, 2), (0, 1, -1), (0, 0, 1), y = (-1, 0, 0), priors 10, 2, 0: the metrics of labels 0 to 7 are 10, 6, 8, 12, 12,
+-- 24, 18 and 38, and the leaves walked are 000, 100, 010 and 001, in this order
+abbrev pub eq31 : Reading
+eq31 =
+    block 3 1 3 10
+    ((row 1 (pos 1 & pos 0 ∷ pos 2 & pos 0 ∷ []) (minus 1 & pos 0) (pos 10 ∷ []) ∷
+    row 1 (minus 1 & pos 0 ∷ []) (pos 0 & pos 0) (pos 2 ∷ []) ∷
+    row 1 [] (pos 0 & pos 0) (pos 0 ∷ []) ∷ []) ∷ [])
+    gives (complete 10 1 (minus 3 ∷ pos 0 ∷ minus 2 ∷ []) ∷ [])
+
+-- The same trap in two streams of two bits: better and better leaves, where clipping from below at each would show; then a tie between labels decides
 abbrev pub trap : Reading
 trap =
     block 2 2 2 40
@@ -144,6 +159,7 @@ blocks =
     gives (complete 3 7 (pos 5 ∷ minus 5 ∷ minus 5 ∷ minus 5 ∷ []) ∷
     complete 8 15 (minus 4 ∷ minus 5 ∷ minus 5 ∷ minus 5 ∷ []) ∷
     stopped 4 9 (minus 5 ∷ pos 5 ∷ pos 5 ∷ minus 4 ∷ []) ∷ []) ∷
+    eq31 ∷
     trap ∷
     -- The trap again on two streams of 16 points, with limits below B
     block 2 4 5 40
@@ -208,7 +224,7 @@ foundFirst r = firstOf (r .given) (r .given .vectors)
 unfoldable pub statedFirst : Reading → List Answer
 statedFirst r = take 1 (r .expected)
 
-pub searched : map foundFirst (trap ∷ readings) ≡ map statedFirst (trap ∷ readings)
+pub searched : map foundFirst (eq31 ∷ trap ∷ readings) ≡ map statedFirst (eq31 ∷ trap ∷ readings)
 unfolding foundFirst statedFirst readings
 searched = refl
 

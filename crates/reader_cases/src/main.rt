@@ -1,6 +1,7 @@
 // Runs the record reader on the test records of standard input (crate cases). For each a line is written: `refused` and the refusal's
 // number, or `accepted`, how many whole numbers the record has and their checksum. What the lines must be comes from a second reader, in
 // Rust.
+use block::MOST_NUMBERS;
 use block::Read;
 use cases::Case;
 use libc::STDIN_FILENO;
@@ -9,6 +10,7 @@ ghost use mathlib.Core.Path.{_≡_};
 ghost use Prim.Native.Nat.{_<_, _≤_, min};
 ghost use lib.IntN.{natAbs};
 ghost use lib.ListN.{length};
+ghost use Rattle.block.specs.Reading.{mostNumbers};
 ghost use Rattle.reader_cases.specs.Numbers.{countOf, moved, mixed, checksumOf};
 
 fn smaller(a: usize, b: usize) -> usize
@@ -26,8 +28,8 @@ fn size(z: i32, most: usize) -> usize
 }
 
 // How many whole numbers a record has, by its M, Q and N. A vector's priors are at most 24: Q = 8 is with up to three streams.
-fn count(numbers: &[i32; 3077]) -> usize
-    ensures { λ r. ⌜ (r ≡ countOf (now (numbers .entry))) × (r ≤ 3077) ⌝ }
+fn count(numbers: &[i32; MOST_NUMBERS]) -> usize
+    ensures { λ r. ⌜ (r ≡ countOf (now (numbers .entry))) × (r ≤ mostNumbers) ⌝ }
 {
     let m = size(numbers[0], 4);
     let q = size(numbers[1], 8);
@@ -43,7 +45,7 @@ fn move_up(z: i32) -> u64
     (z as i64 + 2147483648) as u64
 }
 
-// The checksum with one whole number more.
+// The checksum with one whole number more, modulo a prime: a power of 2 would hide an error in the high bits.
 fn mix(sum: u64, z: i32) -> u64
     requires { ⌜ sum < 4294967291 ⌝ }
     ensures { λ r. ⌜ (r ≡ mixed sum z) × (r < 4294967291) ⌝ }
@@ -52,8 +54,8 @@ fn mix(sum: u64, z: i32) -> u64
 }
 
 // The checksum of the first numbers, as many as n.
-fn checksum(numbers: &[i32; 3077], n: usize) -> u64
-    requires { ⌜ n ≤ 3077 ⌝ }
+fn checksum(numbers: &[i32; MOST_NUMBERS], n: usize) -> u64
+    requires { ⌜ n ≤ mostNumbers ⌝ }
     ensures { λ r. ⌜ r ≡ checksumOf (now (numbers .entry)) n ⌝ }
 {
     let mut sum: u64 = 0;
@@ -81,9 +83,9 @@ fn print_accepted(count: usize, sum: u64) {
 }
 
 // Reads one test record and writes its line.
-fn run(record: &[u8], numbers: &mut [i32; 3077])
-    requires { ⌜ length (now numbers) ≡ 3077 ⌝ }
-    ensures { λ _. ⌜ length (now (numbers .exit)) ≡ 3077 ⌝ }
+fn run(record: &[u8], numbers: &mut [i32; MOST_NUMBERS])
+    requires { ⌜ length (now numbers) ≡ mostNumbers ⌝ }
+    ensures { λ _. ⌜ length (now (numbers .exit)) ≡ mostNumbers ⌝ }
 {
     match block::read_whole(record, numbers) {
         Read::Ended(_) => {
@@ -96,7 +98,7 @@ fn run(record: &[u8], numbers: &mut [i32; 3077])
 
 // Reads each test record of the input. The numbers of one stay in the list for the next, which must not see them.
 fn run_all(input: &[u8]) {
-    let mut numbers = [0i32; 3077];
+    let mut numbers = [0i32; MOST_NUMBERS];
     let mut at = 0;
     while at < input.len() {
         match cases::case_at(input, at) {

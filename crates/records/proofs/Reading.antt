@@ -9,7 +9,7 @@ use lib.Seq.{sets, sets-eq, drop-cons, getD-take, length-take-le}
 use lib.IntN.{ℤ, pos}
 use Rattle.model.specs.Block.{mostVectors}
 use Rattle.model.proofs.Bounds.{width-small}
-use Rattle.block.specs.Reading.{countAt, readWhole, Got, got, into}
+use Rattle.block.specs.Reading.{countAt, readWhole, Got, got, into, mostNumbers}
 use Rattle.block.specs.Contents.{blockOf}
 use Rattle.block.specs.Filling.{refused, fitted}
 use Rattle.block.specs.declared.Read.the-variants.{Ended, Refused}
@@ -38,7 +38,7 @@ sets-start l zs h =
 -- A list of which a record's reading made another
 module _ (bytes : List ℕ) (room : ℕ) (list list′ : List ℤ) where
   -- Read to its end
-  module _ (at : ℕ) (size : length list ≡ 3077) (e : got (Ended at) list′ ≡ into 0 (readWhole bytes) list) where
+  module _ (at : ℕ) (size : length list ≡ mostNumbers) (e : got (Ended at) list′ ≡ into 0 (readWhole bytes) list) where
     pub lent-sized : Sized list′
     unfolding blockOf
     lent-sized =

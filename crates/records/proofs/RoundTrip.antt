@@ -16,7 +16,7 @@ use Rattle.wire.specs.Folding.{folded, unfolded}
 use Rattle.wire.proofs.RoundTrip.{folded-unfolded, read-at, read-splits}
 use Rattle.model.specs.Block.{Every}
 use Rattle.block.specs.Table.{allowed, isFolded}
-use Rattle.block.specs.Reading.{wholeOf, Parse, numbersAt, opening, startsWith, readRecord, atEnd, readWhole}
+use Rattle.block.specs.Reading.{wholeOf, Parse, numbersAt, opening, startsWith, readRecord, atEnd, readWhole, longestRecord}
 use Rattle.block.specs.Conditions.{calledFor}
 use Rattle.block.specs.Filling.{filled}
 use Rattle.block.specs.declared.Kind.{Kind}
@@ -164,7 +164,7 @@ read-written bytes places numbers b e room h =
     write-enough numbers room (length bytes) (record { fine-is = passes; size-is = ap length (sym is) }) h ∙ ap filled is
 
 -- A written record is no longer than any that is accepted
-pub written-size : (numbers : List ℤ) (room : ℕ) (bytes : List ℕ) → writing numbers room ≡ filled bytes → length bytes ≤ 8207
+pub written-size : (numbers : List ℤ) (room : ℕ) (bytes : List ℕ) → writing numbers room ≡ filled bytes → length bytes ≤ longestRecord
 written-size numbers room bytes e =
     let w = write-accepted numbers room bytes e in
     let r = record-read numbers (w .0) in

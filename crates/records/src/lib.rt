@@ -171,7 +171,7 @@ pub extern "C" fn geckoneedle_write(numbers: &[i32], record: &mut [u8]) -> i64
 }
 
 // The first numbers of a list, copied into a lent one.
-fn copy(list: &[i32; block::MOST], count: usize, numbers: &mut [i32])
+fn copy(list: &[i32; block::MOST_NUMBERS], count: usize, numbers: &mut [i32])
     requires { ⌜ (count ≤ mostNumbers) × (length (now list) ≡ mostNumbers) × (count ≤ length (now numbers)) ⌝ }
     ensures { λ _. ⌜ now (numbers .exit) ≡ sets (now (numbers .entry)) 0 (take count (now (list .entry))) ⌝ }
 {
@@ -183,7 +183,7 @@ fn copy(list: &[i32; block::MOST], count: usize, numbers: &mut [i32])
 }
 
 // The numbers of the record that a list holds, handed over if they fit.
-fn hand_over(list: &[i32; block::MOST], numbers: &mut [i32]) -> i64
+fn hand_over(list: &[i32; block::MOST_NUMBERS], numbers: &mut [i32]) -> i64
     requires { ⌜ Sized (now list) × (length (now list) ≡ mostNumbers) ⌝ }
     ensures { λ r. ⌜ call r (now (numbers .exit))
         ≡ filling (fitted (length (now (numbers .entry))) (take (numberCount (now (list .entry))) (now (list .entry)))) (now (numbers .entry)) ⌝ }
@@ -202,7 +202,7 @@ pub extern "C" fn geckoneedle_read(record: &[u8], numbers: &mut [i32]) -> i64
     ensures { λ r. ⌜ call r (now (numbers .exit))
         ≡ filling (reading (now («record» .entry)) (length (now (numbers .entry)))) (now (numbers .entry)) ⌝ }
 {
-    let mut list = [0i32; block::MOST];
+    let mut list = [0i32; block::MOST_NUMBERS];
     match block::read_whole(record, &mut list) {
         Read::Ended(_) => hand_over(&list, numbers),
         Read::Refused(refusal) => block::refused(refusal),

@@ -6,9 +6,9 @@ use native.Mathlib.Omega.{arith}
 use borrow.Rule.Slice.PartMut.{putMid, postOf, same-len-mid}
 use lib.ListN.{length, take, drop}
 use lib.Seq.{length-take-le, take-append-seam, drop-append-seam}
-use Rattle.pruning.proofs.Arrays.{same-part, part-length}
-use Rattle.siblings.specs.Rows.{keyCount, Took}
-use Rattle.siblings.proofs.Rows.{row-least-front}
+use Rattle.search_spec.proofs.Arrays.{same-part, part-length}
+use Rattle.enumeration.specs.Rows.{keyCount, Took}
+use Rattle.enumeration.proofs.Rows.{row-least-front}
 use Rattle.search.specs.Turn.{behind}
 
 -- `lower` is put behind the keys

@@ -18,16 +18,16 @@ use Rattle.model.proofs.Lists.{any-upFrom}
 use Rattle.model.proofs.Numbers.{first-half}
 use Rattle.metric.specs.Parts.{axisWidth, span, bitOf}
 use Rattle.metric.specs.Tables.Axis.{real, imaginary}
-use Rattle.pruning.specs.Program.{above, Taken, opens, lets, passing}
-use Rattle.pruning.specs.Reach.{widestOf}
-use Rattle.pruning.proofs.Reach.{ltb-max, any-widest, widest-split, widest-same}
-use Rattle.cutoff.specs.Cut.{symbolReach}
-use Rattle.reach.specs.Reach.{firstPlace, entryPlace, entriesOf, Reaches, streamReach, chosenReach, symbolOf}
+use Rattle.search_spec.specs.Program.{above, Taken, opens, lets, passing}
+use Rattle.search_spec.specs.Reach.{widestOf}
+use Rattle.search_spec.proofs.Reach.{ltb-max, any-widest, widest-split, widest-same}
+use Rattle.bounding.specs.Cut.{symbolReach}
+use Rattle.limits.specs.Reach.{firstPlace, entryPlace, entriesOf, Reaches, streamReach, chosenReach, symbolOf}
 use Rattle.metric.proofs.Opposite.{xor-opposite}
-use Rattle.reach.proofs.Passing.{chosen-is, chosen-child}
-use Rattle.leaves.specs.Limits.{limitAt, Limited}
-use Rattle.leaves.proofs.Limits.{reaches-limit}
-use Rattle.children.specs.Expand.{WouldCut}
+use Rattle.limits.proofs.Passing.{chosen-is, chosen-child}
+use Rattle.hypotheses.specs.Limits.{limitAt, Limited}
+use Rattle.hypotheses.proofs.Limits.{reaches-limit}
+use Rattle.expansion.specs.Expand.{WouldCut}
 use Rattle.search.specs.Limits.{passesAt, passesBy, opposite}
 
 -- A stream's entries by themselves

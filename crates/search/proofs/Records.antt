@@ -9,11 +9,11 @@ use lib.ListN.{length, take, drop}
 use lib.IntN.{ℤ}
 use Rattle.model.specs.Block.{InRange, mostStreams, mostBits}
 use Rattle.model.proofs.Bounds.{width-small, width-positive}
-use Rattle.block.specs.Reading.{vectorSize, countAt, readWhole, got, into}
+use Rattle.block.specs.Reading.{vectorSize, countAt, readWhole, got, into, mostNumbers}
 use Rattle.block.specs.Contents.{vectorNumbers, blockOf}
 use Rattle.block.specs.declared.Read.the-variants.{Ended}
 use Rattle.block.proofs.Lent.{AllPlaced, vectors-fit, lent-room, lent-in-range, lent-placed}
-use Rattle.leaves.specs.Limits.{vectorAt, SearchAsked}
+use Rattle.hypotheses.specs.Limits.{vectorAt, SearchAsked}
 use Rattle.search.specs.Values.{Answered}
 use Rattle.search.specs.Holds.{Holds}
 
@@ -41,7 +41,7 @@ vector-asked list r p k h =
     }
 
 -- A list of which a record's reading, to its end, made another
-pub lent-holds : (bytes : List ℕ) (at : ℕ) (list list′ : List ℤ) → length list ≡ 3077
+pub lent-holds : (bytes : List ℕ) (at : ℕ) (list list′ : List ℤ) → length list ≡ mostNumbers
     → got (Ended at) list′ ≡ into 0 (readWhole bytes) list → Holds list′
 lent-holds bytes at list list′ room e =
     let ranged = lent-in-range bytes at list list′ room e in
@@ -67,7 +67,7 @@ module _ (list : List ℤ) (h : Holds list) (m q : ℕ) (em : m ≡ countAt 0 li
 
   -- Vector k ends within the list, and a search may be asked for the part that it is
   module _ (k : ℕ) (l : k < countAt 2 list) where
-    pub vector-end : 5 + k * vectorSize m q + vectorSize m q ≤ 3077
+    pub vector-end : 5 + k * vectorSize m q + vectorSize m q ≤ mostNumbers
     vector-end =
         let size = vectorSize (countAt 0 list) (countAt 1 list) in
         rw (em, eq) (omega (arith, vectors-fit list (h .ranged), suc-mul k size, mul-le-mul l (le-refl size)))

@@ -10,22 +10,22 @@ use lib.IntN.{ℤ}
 use Rattle.model.specs.Metric.{Vector}
 use Rattle.block.proofs.Places.{rows-count}
 use Rattle.model.specs.Block.{mostWidth}
-use Rattle.pruning.specs.Arrays.{leastFirst}
-use Rattle.pruning.specs.Program.{above, largestPartial, Taken, Kept, keptOf, passing, noted, chosen, keyOf, childOf, below, restOf}
-use Rattle.pruning.proofs.Arrays.{Same, Held, held-least, held-set, held-same, same-part}
-use Rattle.pruning.proofs.Bounds.{kept-falls, symbol-inside, key-bound, keys-held, partial-low, child-placed, child-by}
-use Rattle.pruning.proofs.Turns.{rest-start, rest-same, rest-done, rest-cut, rest-halted, rest-stopped, rest-onward}
-use Rattle.pruning.proofs.Early.{rest-beyond, below-shut}
-use Rattle.siblings.specs.Rows.{keyCount, RowLeast, Took}
-use Rattle.siblings.proofs.Rows.{row-least-front}
-use Rattle.siblings.proofs.Taking.{took-same}
-use Rattle.leaves.specs.Limits.{vectorAt, LimitsAsked, Limited}
+use Rattle.search_spec.specs.Arrays.{leastFirst}
+use Rattle.search_spec.specs.Program.{above, largestPartial, Taken, Kept, keptOf, passing, noted, chosen, keyOf, childOf, below, restOf}
+use Rattle.search_spec.proofs.Arrays.{Same, Held, held-least, held-set, held-same, same-part}
+use Rattle.search_spec.proofs.Bounds.{kept-falls, symbol-inside, key-bound, keys-held, partial-low, child-placed, child-by}
+use Rattle.search_spec.proofs.Turns.{rest-start, rest-same, rest-done, rest-cut, rest-halted, rest-stopped, rest-onward}
+use Rattle.search_spec.proofs.Early.{rest-beyond, below-shut}
+use Rattle.enumeration.specs.Rows.{keyCount, RowLeast, Took}
+use Rattle.enumeration.proofs.Rows.{row-least-front}
+use Rattle.enumeration.proofs.Taking.{took-same}
+use Rattle.hypotheses.specs.Limits.{vectorAt, LimitsAsked, Limited}
 use Rattle.search.specs.Limits.{passesAt, opposite}
 use Rattle.search.specs.Turn.{behind, NextAsked, nextOf, NodeAsked, Renewal}
-use Rattle.children.specs.Expand.{NodeIn, Shut, Filled}
-use Rattle.children.specs.declared.Node.{Node}
-use Rattle.children.proofs.Rows.{key-by}
-use Rattle.children.proofs.Nodes.{keys-rise, room-for, in-range, within, chosen-few, node-placed, level-up, some, row-inside, kid-low}
+use Rattle.expansion.specs.Expand.{NodeIn, Shut, Filled}
+use Rattle.tree.specs.declared.Node.{Node}
+use Rattle.expansion.proofs.Rows.{key-by}
+use Rattle.expansion.proofs.Nodes.{keys-rise, room-for, in-range, within, chosen-few, node-placed, level-up, some, row-inside, kid-low}
 use Rattle.search.proofs.Values.{room-below}
 use Rattle.search.proofs.Limits.{passing-by, child-reach, would-cut}
 

@@ -16,22 +16,22 @@ use Rattle.model.proofs.Bounds.{largest-pair}
 use Rattle.block.proofs.Places.{rows-count}
 use Rattle.metric.specs.Parts.{filled}
 use Rattle.metric.proofs.Filled.{filled-same}
-use Rattle.pruning.specs.Program.{above, Taken, takenOf, takenIn, limitsOf, keptOf, fresh, chosen, below, valueOf, answerOf}
-use Rattle.pruning.specs.Reach.{widestOf}
-use Rattle.reach.specs.Reach.{limitsSize, chosenReach}
-use Rattle.siblings.specs.Rows.{keyCount}
-use Rattle.leaves.specs.Limits.{vectorAt, SearchAsked, minimaSize, LimitsAsked}
+use Rattle.search_spec.specs.Program.{above, Taken, takenOf, takenIn, limitsOf, keptOf, fresh, chosen, below, valueOf, answerOf}
+use Rattle.search_spec.specs.Reach.{widestOf}
+use Rattle.limits.specs.Reach.{limitsSize, chosenReach}
+use Rattle.enumeration.specs.Rows.{keyCount}
+use Rattle.hypotheses.specs.Limits.{vectorAt, SearchAsked, minimaSize, LimitsAsked}
 use Rattle.search.specs.Limits.{keyPlaces, opposite}
 use Rattle.search.specs.Turn.{NodeAsked}
-use Rattle.leaves.specs.Values.{MinimaLow}
-use Rattle.leaves.proofs.Limits.{all-same}
-use Rattle.leaves.proofs.Values.{bits-are, value-same}
+use Rattle.hypotheses.specs.Values.{MinimaLow}
+use Rattle.hypotheses.proofs.Limits.{all-same}
+use Rattle.hypotheses.proofs.Values.{bits-are, value-same}
 use Rattle.search.specs.Values.{Answered}
-use Rattle.pruning.proofs.Arrays.{part-length}
-use Rattle.pruning.proofs.Answer.{answered, soft-is}
-use Rattle.pruning.proofs.Bounds.{minima-low}
-use Rattle.children.proofs.Rows.{ranged}
-use Rattle.children.proofs.Nodes.{keys-rise}
+use Rattle.search_spec.proofs.Arrays.{part-length}
+use Rattle.search_spec.proofs.Answer.{answered, soft-is}
+use Rattle.search_spec.proofs.Bounds.{minima-low}
+use Rattle.expansion.proofs.Rows.{ranged}
+use Rattle.expansion.proofs.Nodes.{keys-rise}
 
 -- Behind a node's keys there is room for those of the levels below
 pub room-below : (level q : ℕ) → 0 < level → (keys : List ℕ) → level * keyCount q ≤ length keys

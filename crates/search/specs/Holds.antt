@@ -7,7 +7,7 @@ use lib.ListN.{length}
 use Rattle.model.specs.Block.{InRange}
 use Rattle.block.specs.Reading.{countAt, mostNumbers}
 use Rattle.block.specs.Contents.{vectorNumbers, blockOf}
-use Rattle.leaves.specs.Limits.{SearchAsked}
+use Rattle.hypotheses.specs.Limits.{SearchAsked}
 
 pub record Holds (list : List ℤ) : Type 0 where
   pub room : length list ≡ mostNumbers

@@ -8,21 +8,8 @@ use lib.ListN.{getD}
 use lib.IntN.{ℤ}
 use Rattle.model.specs.Metric.{Vector}
 use Rattle.model.specs.Block.{mostWidth}
-use Rattle.reach.specs.Reach.{firstPlace, streamReach, symbolOf, chosenReach}
-use Rattle.siblings.specs.Rows.{keyCount}
-use Rattle.leaves.specs.declared.Sizes.{Sizes}
-use Rattle.leaves.specs.Limits as leaves
-use Rattle.search.specs.declared.Task.{Task}
-
--- The sizes of a task's vector, the vector, and what its search asks
-abbrev pub sizesOf : Task → Sizes
-sizesOf t = record { streams = t .streams; width = t .width; clip = t .clip }
-
-abbrev pub vectorFor : Task → List ℤ → Vector
-vectorFor t numbers = leaves.vectorFor (sizesOf t) numbers
-
-abbrev pub Asked : Task → List ℤ → Type 0
-Asked t numbers = leaves.Asked (sizesOf t) numbers
+use Rattle.limits.specs.Reach.{firstPlace, streamReach, symbolOf, chosenReach}
+use Rattle.enumeration.specs.Rows.{keyCount}
 
 -- The places of the keys of all levels, three of the widest symbols or four of 6 bits
 abbrev pub keyPlaces : ℕ

@@ -8,16 +8,16 @@ use lib.ListN.{length, getD, take, drop}
 use Rattle.model.specs.Block.{mostStreams, mostWidth, mostBits}
 use Rattle.constellation.specs.Points.{Points}
 use Rattle.metric.specs.Tables.{Tabled}
-use Rattle.pruning.specs.Arrays.{leastFirst}
-use Rattle.pruning.specs.Program.{above, Taken}
-use Rattle.reach.specs.Reach.{limitsSize}
-use Rattle.siblings.specs.Rows.{keyCount, RowLeast, Took}
-use Rattle.leaves.specs.Limits.{vectorAt, LimitsAsked, Limited}
+use Rattle.search_spec.specs.Arrays.{leastFirst}
+use Rattle.search_spec.specs.Program.{above, Taken}
+use Rattle.limits.specs.Reach.{limitsSize}
+use Rattle.enumeration.specs.Rows.{keyCount, RowLeast, Took}
+use Rattle.hypotheses.specs.Limits.{vectorAt, LimitsAsked, Limited}
 use Rattle.search.specs.Limits.{passesAt, opposite, oppositeReach}
-use Rattle.children.specs.Expand.{NodeIn, Shut, Filled}
-use Rattle.search.specs.declared.Task.{Task}
-use Rattle.children.specs.declared.Node.{Node}
-use Rattle.leaves.specs.declared.Kept.{Kept}
+use Rattle.expansion.specs.Expand.{NodeIn, Shut, Filled}
+use Rattle.tree.specs.declared.Task.{Task}
+use Rattle.tree.specs.declared.Node.{Node}
+use Rattle.tree.specs.declared.Kept.{Kept}
 use Rattle.search.specs.declared.Turn.{Turn}
 use Rattle.search.specs.declared.Turn.the-variants.{Ended, Cut, Stop, Left, Leaf, Enter}
 

@@ -1,14 +1,12 @@
 // The search of one vector (document 01, "The walk"): the next child, the pass test, and the walk under an allowance.
-use children::Node;
 use constellation::PLACES;
-use leaves::Best;
-use leaves::Kept;
-use leaves::Sizes;
+use enumeration::Row;
 use metric::AXES;
-use metric::Shape;
 use metric::TABLE;
-use siblings::ABOVE;
-use siblings::Row;
+use tree::ABOVE;
+use tree::Kept;
+use tree::Node;
+use tree::Task;
 ghost use mathlib.Core.Path.{_≡_};
 ghost use mathlib.Core.Bool.{true, false};
 ghost use Prim.Native.Nat.{_+_, _*_, _-_, _<_, _≤_, _^_};
@@ -16,12 +14,12 @@ ghost use lib.ListN.{length};
 ghost use Rattle.model.specs.Block.{mostStreams, mostWidth, mostBits};
 ghost use Rattle.constellation.specs.Points.{Points};
 ghost use Rattle.metric.specs.Tables.{Tabled};
-ghost use Rattle.pruning.specs.Program.{above, takenIn, limitsOf, keptOf, noted, below};
-ghost use Rattle.reach.specs.Reach.{limitsSize};
-ghost use Rattle.siblings.specs.Rows.{keyCount, LeastRow};
-ghost use Rattle.leaves.specs.Limits.{minimaSize, Limited};
-ghost use Rattle.children.specs.Expand.{Filled};
-ghost use Rattle.search.specs.Limits.{sizesOf, vectorFor, Asked, keyPlaces, passesAt};
+ghost use Rattle.search_spec.specs.Program.{above, takenIn, limitsOf, keptOf, noted, below};
+ghost use Rattle.limits.specs.Reach.{limitsSize};
+ghost use Rattle.enumeration.specs.Rows.{keyCount, LeastRow};
+ghost use Rattle.hypotheses.specs.Limits.{vectorFor, Asked, minimaSize, Limited};
+ghost use Rattle.expansion.specs.Expand.{Filled};
+ghost use Rattle.search.specs.Limits.{keyPlaces, passesAt};
 ghost use Rattle.search.specs.Turn.{NextAsked, NextChild, AdvanceAsked, Advanced, Renewal, NodeAsked};
 ghost use Rattle.search.specs.Values.{Answered};
 
@@ -39,25 +37,6 @@ enum Turn {
 // The places of the keys of all levels: three of 256 children and two for each of 16 rows, or four of 64 and two for each of 8.
 pub const KEYS: usize = 3 * 288;
 
-// What a search is asked: a vector's M, Q and C, and its allowance (document 01's term).
-pub struct Task {
-    pub streams: usize,
-    pub width: usize,
-    pub clip: u32,
-    pub allowance: u32,
-}
-
-// The sizes of a task's vector.
-fn sizes_of(task: Task) -> Sizes
-    ensures { λ r. ⌜ r ≡ sizesOf task ⌝ }
-{
-    Sizes {
-        streams: task.streams,
-        width: task.width,
-        clip: task.clip,
-    }
-}
-
 // Does a node of partial metric d pass? `level` streams are not chosen yet, and `chosen` is the widest limit of the chosen bits that are
 // opposite to the best label's.
 fn passes(kept: Kept, limits: &[u64], d: u64, level: usize, chosen: u64) -> bool
@@ -67,29 +46,10 @@ fn passes(kept: Kept, limits: &[u64], d: u64, level: usize, chosen: u64) -> bool
     if d <= kept.best {
         return true;
     }
-    if d < limits[reach::FIRST + level] {
+    if d < limits[limits::FIRST + level] {
         return true;
     }
     d < chosen
-}
-
-// A leaf is taken into what is kept.
-fn take_leaf(task: Task, leaf: Node, kept: Kept, numbers: &[i32], minima: &mut [u64]) -> Kept
-    requires { ⌜ Asked task (now numbers) × (leaf .partial < above) × (length (now minima) ≡ minimaSize)
-        × (leaf .bits < 2 ^ (task .streams * task .width))
-        × Limited (vectorFor task (now numbers)) (takenIn (kept .label) (kept .best) (now minima)) (limitsOf (now minima)) ⌝ }
-    ensures { λ r. ⌜ (keptOf (r .count) (r .stopped) (takenIn (r .label) (r .best) (now (minima .exit)))
-        ≡ keptOf (kept .count) (kept .stopped)
-        (noted (vectorFor task (now (numbers .entry))) (leaf .bits) (leaf .partial)
-        (takenIn (kept .label) (kept .best) (now (minima .entry)))))
-        × Limited (vectorFor task (now (numbers .entry))) (takenIn (r .label) (r .best) (now (minima .exit)))
-        (limitsOf (now (minima .exit))) × (length (now (minima .exit)) ≡ minimaSize) ⌝ }
-{
-    let found = Best {
-        label: leaf.bits,
-        metric: leaf.partial,
-    };
-    leaves::take(sizes_of(task), found, kept, numbers, minima)
 }
 
 // The node's bits with one more symbol before them.
@@ -116,15 +76,15 @@ fn next_child(
 {
     let q = task.width;
     let after = (task.streams - node.level) * q;
-    let symbol = siblings::take(q, next.row, keys);
+    let symbol = enumeration::take(q, next.row, keys);
     let own = metric::symbol_at(label, q, after);
     let level = node.level - 1;
     Node {
         level,
         bits: with_symbol(symbol, after, node.bits),
         partial: next.key,
-        chosen: reach::larger(
-            reach::stream_reach(q, limits, level, symbol ^ own),
+        chosen: integers::larger(
+            limits::stream_reach(q, limits, level, symbol ^ own),
             node.chosen,
         ),
     }
@@ -170,7 +130,7 @@ fn advance(
     requires { ⌜ AdvanceAsked task (now points) (now numbers) (now tables) node kept (now limits) (now keys) ⌝ }
     ensures { λ r. ⌜ Advanced task (now (numbers .entry)) node kept (now (limits .entry)) (now (keys .entry)) (now (keys .exit)) r ⌝ }
 {
-    let next = siblings::least_row(task.width, keys);
+    let next = enumeration::least_row(task.width, keys);
     if !passes(kept, limits, next.key, node.level, node.chosen) {
         return Turn::Ended;
     }
@@ -185,8 +145,8 @@ fn advance(
         return Turn::Leaf(child);
     }
     let places = key_places(task.width);
-    if !children::expand(
-        sizes_of(task),
+    if !expansion::expand(
+        task,
         child,
         kept,
         points,
@@ -217,7 +177,7 @@ fn renew_node(task: Task, node: Node, label: u32, limits: &[u64]) -> Node
         level: node.level,
         bits: node.bits,
         partial: node.partial,
-        chosen: reach::chosen(
+        chosen: limits::chosen(
             task.streams,
             task.width,
             limits,
@@ -255,8 +215,9 @@ fn walk(
     let mut k = kept;
     let mut parent = node;
     let mut tried = 0;
+    // Not `<`: the compiler would turn that into a shift at every turn.
     while tried != n {
-        let limits = &minima[leaves::LIMITS..];
+        let limits = &minima[hypotheses::LIMITS..];
         match advance(task, parent, k, points, numbers, tables, limits, keys) {
             Turn::Ended => return k,
             Turn::Stop => return halted(k),
@@ -264,8 +225,8 @@ fn walk(
                 k = counted(k);
             }
             Turn::Leaf(leaf) => {
-                let found = take_leaf(task, leaf, counted(k), numbers, minima);
-                parent = renew_node(task, parent, found.label, &minima[leaves::LIMITS..]);
+                let found = hypotheses::take(task, leaf, counted(k), numbers, minima);
+                parent = renew_node(task, parent, found.label, &minima[hypotheses::LIMITS..]);
                 k = found;
             }
             Turn::Enter(child) => {
@@ -275,7 +236,7 @@ fn walk(
                 if k.stopped {
                     return k;
                 }
-                parent = renew_node(task, parent, k.label, &minima[leaves::LIMITS..]);
+                parent = renew_node(task, parent, k.label, &minima[hypotheses::LIMITS..]);
             }
             Turn::Cut => {}
         }
@@ -284,7 +245,8 @@ fn walk(
     k
 }
 
-// The search below the root. Before the first leaf nothing is cut, so the keys of its children are filled in at once.
+// The search below the root. Before the first leaf nothing is cut, so the keys of its children are filled in at once; and `expand` has one
+// caller, which the compiler then makes it part of.
 fn begin(
     task: Task,
     root: Node,
@@ -306,13 +268,9 @@ fn begin(
 {
     let row = root.level - 1;
     let left = metric::remainder(points, numbers, task.streams, task.width, row, root.bits);
-    let shape = Shape {
-        streams: task.streams,
-        width: task.width,
-    };
     let mut axes = [0u64; AXES];
-    metric::fill_parts(shape, row, left, numbers, tables, &mut axes);
-    siblings::fill(task.width, root.partial, &axes, keys);
+    metric::fill_parts(task, row, left, numbers, tables, &mut axes);
+    enumeration::fill(task.width, root.partial, &axes, keys);
     walk(task, root, kept, points, numbers, tables, minima, keys)
 }
 
@@ -337,14 +295,10 @@ pub fn search_vector(
     ensures { λ r. ⌜ Answered (vectorFor task (now (numbers .entry))) (task .allowance) (r .stopped) (r .count) (r .label)
         (now (soft .entry)) (now (soft .exit)) ⌝ }
 {
-    let shape = Shape {
-        streams: task.streams,
-        width: task.width,
-    };
     let mut tables = [0i32; TABLE];
-    metric::prepare(shape, points, numbers, &mut tables);
+    metric::prepare(task, points, numbers, &mut tables);
     // Before the first leaf every minimum is infinite, and so is B: everything passes, whatever the limits are.
-    let mut minima = [ABOVE; leaves::MINIMA];
+    let mut minima = [ABOVE; hypotheses::MINIMA];
     let start = Kept {
         count: 0,
         stopped: false,
@@ -367,7 +321,7 @@ pub fn search_vector(
         &mut minima,
         keys,
     );
-    leaves::write_soft(sizes_of(task), numbers, &minima, soft);
+    hypotheses::write_soft(task, numbers, &minima, soft);
     Found {
         stopped: end.stopped,
         count: end.count,

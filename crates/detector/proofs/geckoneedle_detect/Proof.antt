@@ -6,6 +6,7 @@ use lib.ListN.{replicate, length-replicate}
 use mir.Syntax.{w64}
 use mir.Val.{SFits}
 use mir.Facts.{toZ-ofZ}
+use Rattle.block.specs.Reading.{mostNumbers}
 use Rattle.search.specs.Holds.{Holds}
 use Rattle.search.proofs.Records.{lent-holds}
 use Rattle.detector.proofs.Outcomes.{when-ended, when-refused}
@@ -14,7 +15,7 @@ use Rattle.detector.proofs.geckoneedle_detect.Tie as tie
 
 holds : (c : tie.After-enum-told) → Holds (c .before .before .read-whole .last .1 .0)
 holds c =
-    lent-holds _ _ (replicate 3077 (pos 0)) _ (length-replicate 3077 (pos 0))
+    lent-holds _ _ (replicate mostNumbers (pos 0)) _ (length-replicate mostNumbers (pos 0))
     (rw (c .enum-told .given .1) at (c .before .before .read-whole .ensures))
 
 returns : tie.Need-returns
@@ -23,7 +24,7 @@ returns c =
     let t = w .before .before .before in
     let f : SFits w64 (w .reply-to .result) = sfits-of (w .reply-to .ok) in
     rw
-    (when-ended _ _ (replicate 3077 (pos 0)) _ _ (length-replicate 3077 (pos 0))
+    (when-ended _ _ (replicate mostNumbers (pos 0)) _ _ (length-replicate mostNumbers (pos 0))
     (rw (t .enum-told .given .1) at (t .before .before .read-whole .ensures)))
     (toZ-ofZ f ∙ w .reply-to .ensures .0, w .reply-to .ensures .1)
 
@@ -31,7 +32,7 @@ returns-2 : tie.Need-returns-2
 returns-2 c =
     let k = c .before .before in
     let f : SFits w64 (c .refused .result) = sfits-of (c .refused .ok) in
-    rw (when-refused _ _ (replicate 3077 (pos 0)) _ _ (rw (k .refusal .given .1) at (k .before .before .read-whole .ensures)))
+    rw (when-refused _ _ (replicate mostNumbers (pos 0)) _ _ (rw (k .refusal .given .1) at (k .before .before .read-whole .ensures)))
     (toZ-ofZ f ∙ c .refused .ensures, refl)
 
 pub geckoneedle-detect-spec : {M : Type 1} → statement M

@@ -3,13 +3,14 @@ use Prim.Native.Nat.{_+_, _*_, _≤_}
 use mathlib.Core.Path.{refl}
 use native.Mathlib.Omega.{arith}
 use borrow.Author.Needs.{needs}
+use Rattle.block.specs.Reading.{mostNumbers}
 use Rattle.block.specs.Contents.{blockOf}
 use Rattle.search.proofs.Records.{vector-end, part-asked, part-answered}
 use Rattle.detector.proofs.Held.{few-streams, few-bits, inside}
 use Rattle.detector.proofs.search_one.Statement.{statement}
 use Rattle.detector.proofs.search_one.Tie as tie
 
-fits : (c : tie.After-vector-size) → 5 + c .before .before .args .k * c .vector-size .result + c .vector-size .result ≤ 3077
+fits : (c : tie.After-vector-size) → 5 + c .before .before .args .k * c .vector-size .result + c .vector-size .result ≤ mostNumbers
 fits c =
     let p = c .before .before .pre in
     rw (c .vector-size .ensures) (vector-end _ (p .held) _ _ (p .headed .streams-is) (p .headed .width-is) _ (inside p))

@@ -13,12 +13,12 @@ use mir.Syntax.{w64}
 use mir.Val.{SFits, toZ, ofZ}
 use mir.Facts.{toZ-ofZ}
 use Rattle.model.specs.Block.{answers}
-use Rattle.block.specs.Reading.{readWhole, got, into}
+use Rattle.block.specs.Reading.{readWhole, got, into, mostNumbers}
 use Rattle.block.specs.Contents.{blockOf}
 use Rattle.block.specs.declared.Read.the-variants.{Ended}
 use Rattle.search.specs.Holds.{Holds}
 use Rattle.search.proofs.Records.{lent-holds}
-use Rattle.detector.specs.Reply.{answersNumbers, replyOf}
+use Rattle.detector.specs.Reply.{answersNumbers, replyOf, mostReply}
 use Rattle.listing.specs.Replied.{Stand}
 use Rattle.listing.proofs.Replied.{answers-stand}
 use Rattle.listing.proofs.Listings.{reply-fits, whole, listed-block, replied-block, listed-refused}
@@ -27,10 +27,10 @@ use Rattle.listing.proofs.list.Tie as tie
 
 -- The lent list and the reply's buffer, before they are filled
 abbrev empty : List ℤ
-empty = replicate 3077 (pos 0)
+empty = replicate mostNumbers (pos 0)
 
 abbrev buffer : List ℕ
-buffer = replicate 6727 0
+buffer = replicate mostReply 0
 
 -- The record, and the lent list after it was read
 abbrev bytes : tie.After-enum-told → List ℕ
@@ -44,7 +44,7 @@ was-read : (c : tie.After-enum-told)
 was-read c = rw (c .enum-told .given .1) at (c .before .before .read-whole .ensures)
 
 holds : (c : tie.After-enum-told) → Holds (numbers c)
-holds c = lent-holds _ _ empty _ (length-replicate 3077 (pos 0)) (was-read c)
+holds c = lent-holds _ _ empty _ (length-replicate mostNumbers (pos 0)) (was-read c)
 
 -- The reply
 module _ (c : tie.After-geckoneedle-detect) where
@@ -60,8 +60,8 @@ module _ (c : tie.After-geckoneedle-detect) where
   was-replied : (c .geckoneedle-detect .result ≡ pos (length reply)) × (array ≡ reply ++ drop (length reply) buffer)
   was-replied =
       let t = c .before .before in
-      let enough : 6727 ≤ length buffer = omega (arith, length-replicate {A = ℕ} 6727 0) in
-      rw (replied-block (bytes t) empty (numbers t) _ (length-replicate 3077 (pos 0)) (was-read t) (length buffer) enough)
+      let enough : mostReply ≤ length buffer = omega (arith, length-replicate {A = ℕ} mostReply 0) in
+      rw (replied-block (bytes t) empty (numbers t) _ (length-replicate mostNumbers (pos 0)) (was-read t) (length buffer) enough)
       at (c .geckoneedle-detect .ensures)
 
   number-is : toZ w64 (ofZ w64 (c .geckoneedle-detect .result)) ≡ pos (length reply)
@@ -97,7 +97,7 @@ write-block-requires c κs =
 returns : tie.Need-returns
 returns c =
     let t = c .before .before .before .before .before .before .before in
-    whole (listed-block (bytes t) empty (numbers t) _ (length-replicate 3077 (pos 0)) (was-read t))
+    whole (listed-block (bytes t) empty (numbers t) _ (length-replicate mostNumbers (pos 0)) (was-read t))
     (omega (arith, c .write-block .ensures .0, c .before .before .before .write-block-arg .given .0 .1)) (c .write-block .ensures .1)
 
 returns-2 : tie.Need-returns-2

@@ -2,6 +2,7 @@
 use Prim.Native.Nat.{_+_, _*_, _≤_, _<_}
 use native.Mathlib.Omega.{arith}
 use borrow.Author.Needs.{needs}
+use Rattle.block.specs.Reading.{mostNumbers}
 use Rattle.listing.proofs.Lines.{few}
 use Rattle.listing.proofs.Numbered.{end-small, bits-less, numbered-asked, numbered}
 use Rattle.listing.proofs.write_numbered.Statement.{statement}
@@ -10,7 +11,7 @@ use Rattle.listing.proofs.write_numbered.Tie as tie
 small : (c : tie.Start) → c .args .k < 64
 small c = omega (arith, c .pre .inside, few (c .pre .held))
 
-fits : (c : tie.Start) → 5 + (c .args .k + 1) * c .args .sizes .vector ≤ 3077
+fits : (c : tie.Start) → 5 + (c .args .k + 1) * c .args .sizes .vector ≤ mostNumbers
 fits c = end-small (c .pre .held) (c .pre .sized) (c .args .k) (c .pre .inside)
 
 less : (c : tie.Start) → c .args .sizes .bits ≤ 5 + (c .args .k + 1) * c .args .sizes .vector

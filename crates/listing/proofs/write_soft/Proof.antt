@@ -8,8 +8,8 @@ use lib.ListN.{length}
 use mir.Syntax.{w32}
 use mir.Val.{SFits}
 use mir.Facts.{toZ-ofZ}
+use Rattle.wire.specs.Writing.{Wrote}
 use Rattle.wire.specs.Folding.{unfolded}
-use Rattle.detector.specs.Steps.{Wrote}
 use Rattle.detector.proofs.Steps.{Left, left-all, wrote-length}
 use Rattle.listing.specs.Text.{softText, valueText}
 use Rattle.listing.proofs.Pieces.{softLeft, left-value, values-all}

@@ -4,13 +4,14 @@ use mathlib.Core.Path.{_≡_}
 use Prim.Native.Nat.{_-_}
 use native.Mathlib.Omega.{arith}
 use lib.ListN.{length}
+use Rattle.block.specs.Reading.{mostNumbers}
 use Rattle.cases.specs.Cases.{Within}
 use Rattle.cases.specs.declared.Case.the-variants.{Bytes}
 use Rattle.reader_cases.proofs.run_all.Statement.{statement}
 use Rattle.reader_cases.proofs.run_all.Tie as tie
 
 abbrev Inv-loop : tie.InvT-loop
-Inv-loop input numbers₀ at₀ t6 numbers at = length numbers ≡ 3077
+Inv-loop input numbers₀ at₀ t6 numbers at = length numbers ≡ mostNumbers
 
 abbrev μ-loop : tie.MeasureT-loop
 μ-loop input numbers₀ at₀ t6 numbers at = length input - at

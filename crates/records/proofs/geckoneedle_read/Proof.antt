@@ -6,6 +6,7 @@ use lib.ListN.{replicate, length-replicate}
 use mir.Syntax.{w64}
 use mir.Val.{SFits}
 use mir.Facts.{toZ-ofZ}
+use Rattle.block.specs.Reading.{mostNumbers}
 use Rattle.block.proofs.Lent.{lent-room}
 use Rattle.records.proofs.Reading.{lent-sized, read-ended, read-refused}
 use Rattle.records.proofs.geckoneedle_read.Statement.{statement}
@@ -15,8 +16,8 @@ hand-over-requires : tie.Need-hand-over-requires
 hand-over-requires c κs =
     let t = c .before .before in
     let e = rw (t .enum-told .given .1) at (t .before .before .read-whole .ensures) in
-    let size = length-replicate 3077 (pos 0) in
-    (lent-sized _ 0 (replicate 3077 (pos 0)) _ _ size e, lent-room _ _ (replicate 3077 (pos 0)) _ size e)
+    let size = length-replicate mostNumbers (pos 0) in
+    (lent-sized _ 0 (replicate mostNumbers (pos 0)) _ _ size e, lent-room _ _ (replicate mostNumbers (pos 0)) _ size e)
 
 returns : tie.Need-returns
 returns c =
@@ -24,7 +25,7 @@ returns c =
     let t = w .before .before .before in
     let f : SFits w64 (w .hand-over .result) = sfits-of (w .hand-over .ok) in
     rw (
-      read-ended _ _ (replicate 3077 (pos 0)) _ _ (length-replicate 3077 (pos 0))
+      read-ended _ _ (replicate mostNumbers (pos 0)) _ _ (length-replicate mostNumbers (pos 0))
           (rw (t .enum-told .given .1) at (t .before .before .read-whole .ensures)),
       toZ-ofZ f,
     )
@@ -35,7 +36,7 @@ returns-2 c =
     let k = c .before .before in
     let f : SFits w64 (c .refused .result) = sfits-of (c .refused .ok) in
     rw (
-      read-refused _ _ (replicate 3077 (pos 0)) _ _ (rw (k .refusal .given .1) at (k .before .before .read-whole .ensures)),
+      read-refused _ _ (replicate mostNumbers (pos 0)) _ _ (rw (k .refusal .given .1) at (k .before .before .read-whole .ensures)),
       toZ-ofZ f ∙ c .refused .ensures,
     )
 

@@ -9,7 +9,7 @@ use lib.Seq.{length-take-le}
 use mir.Syntax.{w64}
 use mir.Val.{SFits}
 use mir.Facts.{toZ-ofZ, toZ-pos}
-use Rattle.block.specs.Reading.{countAt}
+use Rattle.block.specs.Reading.{countAt, mostNumbers}
 use Rattle.block.specs.Filling.{call}
 use Rattle.block.proofs.Fillings.{fitted-short, fitted-enough}
 use Rattle.block.proofs.Parts.{all-fit}
@@ -19,7 +19,7 @@ use Rattle.records.proofs.hand_over.Statement.{statement}
 use Rattle.records.proofs.hand_over.Tie as tie
 
 -- The numbers are within the list
-few : (c : tie.After-number-count) → numberCount (c .before .before .args .list .now) ≤ 3077
+few : (c : tie.After-number-count) → numberCount (c .before .before .args .list .now) ≤ mostNumbers
 few c =
     let s = c .before .before in
     let l = s .args .list .now in

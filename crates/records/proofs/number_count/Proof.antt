@@ -3,7 +3,7 @@ use Prim.Native.Nat.{_+_, _*_, _≤_}
 use mathlib.Core.Path.{_≡_}
 use native.Mathlib.Omega.{arith}
 use borrow.Author.Needs.{needs}
-use Rattle.block.specs.Reading.{countAt}
+use Rattle.block.specs.Reading.{countAt, mostNumbers}
 use Rattle.block.proofs.Parts.{all-fit}
 use Rattle.records.specs.Steps.{numberCount}
 use Rattle.records.proofs.number_count.Statement.{statement}
@@ -17,7 +17,7 @@ count-is c =
     let q = n .before in
     rw (c .vector-size .ensures, n .count-at3 .ensures, q .count-at2 .ensures, q .before .count-at .ensures)
 
-few : (c : tie.After-vector-size) → 5 + c .before .count-at3 .result * c .vector-size .result ≤ 3077
+few : (c : tie.After-vector-size) → 5 + c .before .count-at3 .result * c .vector-size .result ≤ mostNumbers
 few c =
     let s = c .before .before .before .before in
     let l = s .args .numbers .now in

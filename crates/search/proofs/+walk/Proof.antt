@@ -3,7 +3,7 @@ use mathlib.Core.Logic.{⊎-elim}
 use mathlib.Core.Bool.{false}
 use mathlib.Core.Path.{_≡_, refl, _∙_, sym, ap, subst}
 use mathlib.Core.List.{List}
-use Prim.Native.Nat.{ℕ, _<_, _≤_, _+_, _-_, _*_, _^_}
+use Prim.Native.Nat.{ℕ, _<_, _≤_, _+_, _-_, _*_, _%_, _^_}
 use native.Mathlib.Omega.{arith}
 use native.Mathlib.Nat.{le-refl}
 use borrow.Author.Needs.{needs}
@@ -12,17 +12,17 @@ use borrow.Fn.PlainCycle.{Measures, is, falls, and}
 use borrow.Rule.Slice.PartMut.{putMid, same-len-mid}
 use lib.ListN.{length, take, drop}
 use Rattle.metric.proofs.Shifts.{one-shifted}
-use Rattle.pruning.specs.Program.{Kept, takenIn, limitsOf, keptOf, noted, below}
-use Rattle.pruning.proofs.Minima.{limits-part, limits-length}
-use Rattle.siblings.specs.Rows.{keyCount}
-use Rattle.leaves.specs.Limits.{minimaSize}
-use Rattle.search.specs.Limits.{vectorFor}
-use Rattle.children.specs.Expand.{Filled}
+use Rattle.search_spec.specs.Program.{Kept, takenIn, limitsOf, keptOf, noted, below}
+use Rattle.search_spec.proofs.Minima.{limits-part, limits-length}
+use Rattle.enumeration.specs.Rows.{keyCount}
+use Rattle.hypotheses.specs.Limits.{vectorFor, minimaSize}
+use Rattle.expansion.specs.Expand.{Filled}
 use Rattle.search.specs.Turn.{behind, nextOf, AdvanceAsked, Advanced, Renewal, NodeAsked}
-use Rattle.children.specs.declared.Node.{Node}
+use Rattle.tree.specs.declared.Kept.{Kept as Held}
+use Rattle.tree.specs.declared.Node.{Node}
 use Rattle.search.specs.declared.Turn.{Turn}
 use Rattle.search.specs.declared.Turn.the-variants.{Ended, Cut, Stop, Left, Leaf, Enter}
-use Rattle.children.proofs.Nodes.{room-for, partial-under, leaf-placed, kids-few}
+use Rattle.expansion.proofs.Nodes.{room-for, partial-under, leaf-placed, kids-few}
 use Rattle.search.proofs.Search.{Searching, leaf-noted, places-few, start, limits-asked, next-asked}
 use Rattle.search.proofs.Search.{done, ended, halts, cut, past, child-asked, child-in, stops, onward, onward-here}
 use Rattle.search.proofs.walk.Reads as walk
@@ -33,7 +33,7 @@ use Rattle.search.proofs.counted.Reads as counted-reads
 use Rattle.search.proofs.halted.Reads as halted-reads
 use Rattle.search.proofs.key_places.Reads as key-places-reads
 use Rattle.search.proofs.renew_node.Reads as renew-node-reads
-use Rattle.search.proofs.take_leaf.Reads as take-leaf-reads
+use Rattle.hypotheses.proofs.take.Reads as take-reads
 use Rattle.search.proofs.+walk.{statement}
 use Rattle.search.proofs.+walk.Tie.{close}
 
@@ -68,8 +68,8 @@ calls t = (
   halted-reads.Learnt,
   counted-reads.Asked,
   counted-reads.Learnt,
-  take-leaf-reads.Asked,
-  take-leaf-reads.Learnt,
+  take-reads.Asked,
+  take-reads.Learnt,
   renew-node-reads.Asked,
   renew-node-reads.Learnt,
   walk-below t,
@@ -141,8 +141,19 @@ module _ (t : ℕ) (c : walk-lts.After-advance (calls t) (walk-at t) walk.Post I
   lower-is : lower ≡ behind (begin .args .task .width) after
   lower-is = ap (λ (x : ℕ). take (length after - x) (drop x after)) places-are
 
+  -- The invariant holds of what the turn left, if it holds of what that is
+  abbrev InvThen : List ℕ → List ℕ → Held → Node → Type 0
+  InvThen minima keys k parent =
+      let a = begin .args in
+      Inv (a .task) (a .points .now) (a .numbers .now) (a .tables .now) (a .minima .now) (a .keys .now) placed (1 * 2 ^ a .task .width % 2 ^ 64) (a .kept)
+      (a .node) 0 minima keys k parent (loop .loop .tried + 1)
+
+  again : {minima minima′ keys keys′ : List ℕ} {k k′ : Held} {parent parent′ : Node}
+      → minima ≡ minima′ → keys ≡ keys′ → k ≡ k′ → parent ≡ parent′ → InvThen minima′ keys′ k′ parent′ → InvThen minima keys k parent
+  again e f g h held = rw (e, f, g, h) held
+
 -- The child is a leaf, and was taken: what is kept then
-module _ (t : ℕ) (c : walk-lts.After-take-leaf (calls t) (walk-at t) walk.Post Inv μ-loop) where
+module _ (t : ℕ) (c : walk-lts.After-take (calls t) (walk-at t) walk.Post Inv μ-loop) where
   abbrev reaching : walk-lts.After-advance (calls t) (walk-at t) walk.Post Inv μ-loop
   reaching = c .before .before .before .before .before .before .before .before
 
@@ -150,17 +161,17 @@ module _ (t : ℕ) (c : walk-lts.After-take-leaf (calls t) (walk-at t) walk.Post
   reached = let g = c .before .before .before .before .leaf .given in answers t reaching (Leaf (g .0 .0)) (g .1)
 
   abbrev minimaThen : List ℕ
-  minimaThen = c .take-leaf .last .1 .1 .1 .1 .0
+  minimaThen = c .take .last .1 .1 .1 .1 .0
 
   abbrev leafKept : Kept
   leafKept =
-      keptOf (c .take-leaf .result .count) (c .take-leaf .result .stopped)
-      (takenIn (c .take-leaf .result .label) (c .take-leaf .result .best) minimaThen)
+      keptOf (c .take .result .count) (c .take .result .stopped)
+      (takenIn (c .take .result .label) (c .take .result .best) minimaThen)
 
   -- The search goes on
   leaf-runs : leafKept .stopped ≡ false
   leaf-runs =
-      ap (λ (x : Kept). x .stopped) (c .take-leaf .ensures .0) ∙ c .before .before .counted2 .ensures .1 ∙ searching t reaching .running
+      ap (λ (x : Kept). x .stopped) (c .take .ensures .0) ∙ c .before .before .counted2 .ensures .1 ∙ searching t reaching .running
 
   leaf-found : let a = begin t reaching .args in
       let l = loop t reaching .loop in
@@ -171,7 +182,7 @@ module _ (t : ℕ) (c : walk-lts.After-take-leaf (calls t) (walk-at t) walk.Post
       let a = begin t reaching .args in
       let l = loop t reaching .loop in
       let h = c .before .before .counted2 .ensures in
-      rw (h .0, h .1, h .2, h .3) at (c .take-leaf .ensures .0)
+      rw (h .0, h .1, h .2, h .3) at (c .take .ensures .0)
       ∙ ap
       (λ (n : Node).
       keptOf (l .k .count + 1) (l .k .stopped)
@@ -279,11 +290,11 @@ pub +walk-spec : {M : Type 1} → statement M
       subst (λ (n : Node). n .bits < 2 ^ (begin t a .args .task .streams * begin t a .args .task .width)) (sym (r .1)) (leaf-placed (child-in h (more t a)) (r .2)),
       rw (c .before .counted2 .ensures .2, c .before .counted2 .ensures .3) (h .limited),
     ))
-    (λ c. omega (arith, c .before .before .take-leaf .ensures .2))
-    (λ c. omega (arith, c .before .before .before .take-leaf .ensures .2))
+    (λ c. omega (arith, c .before .before .take .ensures .3))
+    (λ c. omega (arith, c .before .before .before .take .ensures .3))
     (λ c. le-refl _)
     (λ c κs. let w = c .before .before .before .before in let n = searching t (reaching t w) .node in let m = minimaThen t w in
-    (n .asked .vector .streams, n .asked .vector .bits, n .inside, rw (limits-part m) (limits-length m ∙ omega (arith, w .take-leaf .ensures .2))))
+    (n .asked .vector .streams, n .asked .vector .bits, n .inside, rw (limits-part m) (limits-length m ∙ omega (arith, w .take .ensures .3))))
     (λ c. c .match .keys5)
     (λ c κs. countable t (c .before .before .before .before .before) (entered t (c .before) .0 .more))
     (λ c. let a = c .before .before .before .before .before .before in omega (arith, loop t a .loop .inv .1, places-few (searching t a .node)))
@@ -320,51 +331,49 @@ pub +walk-spec : {M : Type 1} → statement M
     (λ c. let a = c .before .before .before in omega (arith, more t a, loop t a .loop .inv .0))
     (λ c. let a = c .before .before .before in let l = loop t a .loop in let h = searching t a in
     ⊎-elim
-    (λ x. let r = answers t a Left (x .1 .given .1) in let e = x .2 .ensures in (
+    (λ x. let r = answers t a Left (x .1 .given .1) in let e = x .2 .ensures in again t a (x .3) (x .4) (x .5) (x .6) (
       l .inv .0,
       l .inv .1,
-      rw (x .3) (l .inv .2),
-      rw (x .4) (after-length t a ∙ l .inv .3),
-      rw (x .6) (l .inv .4),
-      rw (x .3, x .4, x .5, x .6, e .0, e .1, e .2, e .3) (past h (more t a) (r .0 .took) (r .0 .passes) (r .0 .more) (r .1) (r .2)),
+      l .inv .2,
+      after-length t a ∙ l .inv .3,
+      l .inv .4,
+      rw (e .0, e .1, e .2, e .3) (past h (more t a) (r .0 .took) (r .0 .passes) (r .0 .more) (r .1) (r .2)),
       omega (arith, more t a, l .inv .0),
     ))
     (⊎-elim
-    (λ x. let w : walk-lts.After-take-leaf (calls t) (walk-at t) walk.Post Inv μ-loop = record { before = record { before = record { before = record { before = record { before = record { before = c .before; match = x .0 }; leaf = x .1 }; known-told = x .2 }; counted2 = x .3 }; take-leaf-arg = x .4 }; take-leaf = x .5 } in let s = begin t a in let n = reached t w .0 in (
+    (λ x. let w : walk-lts.After-take (calls t) (walk-at t) walk.Post Inv μ-loop = record { before = record { before = record { before = record { before = record { before = record { before = c .before; match = x .0 }; leaf = x .1 }; known-told = x .2 }; counted2 = x .3 }; take-arg = x .4 }; take = x .5 } in let s = begin t a in let n = reached t w .0 in again t a (x .11) (x .12) (x .13) (x .14) (
       l .inv .0,
       l .inv .1,
-      rw (x .11) (x .5 .ensures .2),
-      rw (x .12) (after-length t a ∙ l .inv .3),
-      rw (x .14) (x .10 .ensures .level-is ∙ l .inv .4),
-      rw (x .11, x .12, x .13, x .14)
-          (onward-here h (more t a) (n .took) (n .passes) (n .more) (leafKept t w) (leaf-found t w) (leaf-runs t w) (x .5 .ensures .1) _
-          (subst (λ (limits : List ℕ). Renewal (s .args .task .streams) (s .args .task .width) (x .5 .result .label) limits (l .parent) (x .10 .result)) (limits-part (minimaThen t w)) (x .10 .ensures))),
+      x .5 .ensures .3,
+      after-length t a ∙ l .inv .3,
+      x .10 .ensures .level-is ∙ l .inv .4,
+      onward-here h (more t a) (n .took) (n .passes) (n .more) (leafKept t w) (leaf-found t w) (leaf-runs t w) (x .5 .ensures .2) _
+          (subst (λ (limits : List ℕ). Renewal (s .args .task .streams) (s .args .task .width) (x .5 .result .label) limits (l .parent) (x .10 .result)) (limits-part (minimaThen t w)) (x .10 .ensures)),
       omega (arith, more t a, l .inv .0),
     ))
     (⊎-elim
-    (λ x. let w : walk-lts.After-walk (calls t) (walk-at t) walk.Post Inv μ-loop = record { before = record { before = record { before = record { before = record { before = record { before = record { before = c .before; match = x .0 }; child = x .1 }; known-told2 = x .2 }; counted3 = x .3 }; lower = x .4 }; walk-arg = x .5 }; walk = x .6 } in let s = begin t a in let n = entered t (entry t w) .0 in (
+    (λ x. let w : walk-lts.After-walk (calls t) (walk-at t) walk.Post Inv μ-loop = record { before = record { before = record { before = record { before = record { before = record { before = record { before = c .before; match = x .0 }; child = x .1 }; known-told2 = x .2 }; counted3 = x .3 }; lower = x .4 }; walk-arg = x .5 }; walk = x .6 } in let s = begin t a in let n = entered t (entry t w) .0 in again t a (x .15) (x .16) (x .17) (x .18) (
       l .inv .0,
       l .inv .1,
-      rw (x .15) (x .6 .ensures .2),
-      rw (x .16) (then-length t w ∙ after-length t a ∙ l .inv .3),
-      rw (x .18) (x .14 .ensures .level-is ∙ l .inv .4),
-      rw (x .15, x .16, x .17, x .18)
-          (subst
+      x .6 .ensures .2,
+      then-length t w ∙ after-length t a ∙ l .inv .3,
+      x .14 .ensures .level-is ∙ l .inv .4,
+      subst
           (λ (keys : List ℕ). Searching (s .args .task .streams) (s .args .task .width) (s .args .task .clip) (s .args .numbers .now) (s .args .task .allowance) (x .14 .result)
           (below (vectorFor (s .args .task) (s .args .numbers .now)) (s .args .task .allowance) (s .args .node .level) (s .args .node .bits) (s .args .node .partial)
           (keptOf (s .args .kept .count) false (takenIn (s .args .kept .label) (s .args .kept .best) (s .args .minima .now)))) (l .tried + 1) keys
           (kept t w) (limitsOf (x .6 .last .1 .1 .1 .1 .1 .1 .0))) (sym (then-is t w))
           (onward h (more t a) (n .took) (n .passes) (n .more) (kept t w) (found t w) (x .11 .left) (x .6 .ensures .1) _ (ap length (sym (then-is t w)) ∙ then-length t w) _
-          (subst (λ (limits : List ℕ). Renewal (s .args .task .streams) (s .args .task .width) (x .6 .result .label) limits (l .parent) (x .14 .result)) (limits-part (x .6 .last .1 .1 .1 .1 .1 .1 .0)) (x .14 .ensures)))),
+          (subst (λ (limits : List ℕ). Renewal (s .args .task .streams) (s .args .task .width) (x .6 .result .label) limits (l .parent) (x .14 .result)) (limits-part (x .6 .last .1 .1 .1 .1 .1 .1 .0)) (x .14 .ensures))),
       omega (arith, more t a, l .inv .0),
     ))
-    (λ x. let r = answers t a Cut (x .1 .given .1) in (
+    (λ x. let r = answers t a Cut (x .1 .given .1) in again t a (x .2) (x .3) (x .4) (x .5) (
       l .inv .0,
       l .inv .1,
-      rw (x .2) (l .inv .2),
-      rw (x .3) (after-length t a ∙ l .inv .3),
-      rw (x .5) (l .inv .4),
-      rw (x .2, x .3, x .4, x .5) (cut h (more t a) (r .0) (r .1)),
+      l .inv .2,
+      after-length t a ∙ l .inv .3,
+      l .inv .4,
+      cut h (more t a) (r .0) (r .1),
       omega (arith, more t a, l .inv .0),
     ))))
     (c .match .came))

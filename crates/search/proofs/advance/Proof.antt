@@ -8,16 +8,15 @@ use borrow.Author.Needs.{needs}
 use borrow.Author.Tests.{not-true, not-false}
 use borrow.Rule.Slice.PartMut.{putMid}
 use lib.ListN.{length, take, drop}
-use Rattle.pruning.specs.Arrays.{leastFirst}
-use Rattle.siblings.specs.Rows.{keyCount, Took}
-use Rattle.search.specs.Limits.{sizesOf, passesAt}
-use Rattle.children.specs.Expand.{ExpandAsked, Expanded}
+use Rattle.search_spec.specs.Arrays.{leastFirst}
+use Rattle.enumeration.specs.Rows.{keyCount, Took}
+use Rattle.search.specs.Limits.{passesAt}
+use Rattle.expansion.specs.Expand.{ExpandAsked, Expanded}
 use Rattle.search.specs.Turn.{behind, nextOf, Counts}
-use Rattle.leaves.specs.declared.Sizes.{Sizes}
-use Rattle.children.specs.declared.Node.{Node}
+use Rattle.tree.specs.declared.Node.{Node}
 use Rattle.search.proofs.Levels.{withLower, lower-behind, lower-took}
-use Rattle.children.proofs.Kids.{expanded}
-use Rattle.children.proofs.Nodes.{keys-rise, room-for}
+use Rattle.expansion.proofs.Kids.{expanded}
+use Rattle.expansion.proofs.Nodes.{keys-rise, room-for}
 use Rattle.search.proofs.Values.{room-below}
 use Rattle.search.proofs.advance.Statement.{statement}
 use Rattle.search.proofs.advance.Tie as tie
@@ -75,15 +74,13 @@ inner c = omega (arith, ap (λ (x : Node). x .level) (known c .next-child .ensur
 
 expand-requires : tie.Need-expand-requires
 expand-requires c κs =
-    let z = c .before in
-    let p = z .before in
+    let p = c .before in
     let n = known p in
     let s = start n in
     let a = s .args in
     let is = n .next-child .ensures .is in
     let many = ap (λ (x : ℕ). length (take (length (taken n) - x) (drop x (taken n)))) (places p) in
-    rw (z .sizes-of .ensures)
-    (subst (λ (x : Node). ExpandAsked (sizesOf (a .task)) (a .points .now) (a .numbers .now) (a .tables .now) x (a .kept .best) (a .limits .now)
+    subst (λ (x : Node). ExpandAsked (a .task) (a .points .now) (a .numbers .now) (a .tables .now) x (a .kept .best) (a .limits .now)
     (take (length (taken n) - p .key-places .result) (drop (p .key-places .result) (taken n)))) (sym is)
     (record {
       node = s .pre .child;
@@ -98,7 +95,7 @@ expand-requires c κs =
             room-below (a .node .level) (a .task .width) (s .pre .next .inner) (taken n) (omega (arith, s .pre .room, n .next-child .ensures .took .size)),
             many,
           );
-    }))
+    })
 
 -- The keys behind the node's own after the child's children were looked at
 abbrev lower : tie.After-expand → List ℕ
@@ -106,7 +103,7 @@ lower c = c .expand .last .1 .1 .1 .1 .1 .1 .1 .0
 
 module _ (c : tie.After-expand) where
   abbrev p : tie.After-key-places
-  p = c .before .before .before
+  p = c .before .before
 
   abbrev n : tie.After-next-child
   n = known p
@@ -140,9 +137,7 @@ module _ (c : tie.After-expand) where
       (n .next-child .ensures .is)
       (subst (λ (x : Bool). Expanded (a .task .streams) (a .task .width) (a .numbers .now) (n .next-child .result) (a .kept .label) (a .kept .best) (a .limits .now) (lower c) x)
       e
-      (subst (λ (z : Sizes). Expanded (z .streams) (z .width) (a .numbers .now) (n .next-child .result) (a .kept .label) (a .kept .best) (a .limits .now) (lower c)
-      (c .expand .result)) (c .before .before .sizes-of .ensures)
-      (expanded (expand-requires (c .before) (c .expand .lifetimes)) (a .kept .label) (lower c) (c .expand .result) (c .expand .ensures)))))
+      (expanded (expand-requires (c .before) (c .expand .lifetimes)) (a .kept .label) (lower c) (c .expand .result) (c .expand .ensures))))
 
 pub advance-spec : {M : Type 1} → statement M
 advance-spec =
@@ -165,10 +160,9 @@ advance-spec =
     (λ c. let e = c .before .before in let n = e .before .before .before .before .before .before .before in let is = n .next-child .ensures .is in
     (counts e (taken n) (n .next-child .ensures .took), is, omega (arith, ap (λ (x : Node). x .level) is, c .if4 .taken)))
     (λ c κs. start (c .before .before .before .before .before .before .before .before .before) .pre .next .bits)
-    (λ c κs. search needs)
-    (λ c. let p = c .before in let s = start (known p) in omega (arith, places p, keys-rise (s .pre .next .bits)))
-    (λ c. let p = c .before in omega (arith, places p, wide (known p)))
-    (λ c. let p = c .before in omega (arith, places p, wide (known p)))
+    (λ c. let s = start (known c) in omega (arith, places c, keys-rise (s .pre .next .bits)))
+    (λ c. omega (arith, places c, wide (known c)))
+    (λ c. omega (arith, places c, wide (known c)))
     (λ c. search needs)
     expand-requires
     (λ c. search needs)

@@ -9,10 +9,10 @@ use Rattle.metric.specs.Parts.{span}
 use Rattle.metric.specs.Rows.{Measured}
 use Rattle.metric.proofs.Bridge.{measured-by}
 use Rattle.metric.proofs.Filled.{zeros-small}
-use Rattle.siblings.specs.Rows.{keyCount}
-use Rattle.siblings.proofs.Filling.{placed}
-use Rattle.children.proofs.Kids.{filled-in}
-use Rattle.children.proofs.Nodes.{room-for, partial-few, row-inside}
+use Rattle.enumeration.specs.Rows.{keyCount}
+use Rattle.enumeration.proofs.Filling.{placed}
+use Rattle.expansion.proofs.Kids.{filled-in}
+use Rattle.expansion.proofs.Nodes.{room-for, partial-few, row-inside}
 use Rattle.search.proofs.begin.Statement.{statement}
 use Rattle.search.proofs.begin.Tie as tie
 

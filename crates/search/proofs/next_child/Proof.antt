@@ -8,13 +8,13 @@ use native.Mathlib.Omega.{arith}
 use lib.Bits.{bitXor, xor-lt}
 use lib.ListN.{getD}
 use lib.Pow.{pow-mono, pow-pos}
-use Rattle.pruning.specs.Arrays.{leastFirst}
-use Rattle.pruning.proofs.Bounds.{symbol-inside}
-use Rattle.reach.specs.Reach.{streamReach, symbolOf}
-use Rattle.siblings.specs.Rows.{Took}
-use Rattle.siblings.proofs.Taking.{took}
+use Rattle.search_spec.specs.Arrays.{leastFirst}
+use Rattle.search_spec.proofs.Bounds.{symbol-inside}
+use Rattle.limits.specs.Reach.{streamReach, symbolOf}
+use Rattle.enumeration.specs.Rows.{Took}
+use Rattle.enumeration.proofs.Taking.{took}
 use Rattle.search.specs.Turn.{NextChild}
-use Rattle.children.specs.declared.Node.{Node}
+use Rattle.tree.specs.declared.Node.{Node}
 use Rattle.search.proofs.next_child.Statement.{statement}
 use Rattle.search.proofs.next_child.Tie as tie
 

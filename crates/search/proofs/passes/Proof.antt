@@ -7,7 +7,7 @@ use borrow.Author.Needs.{needs}
 use lib.Dec.{ltb}
 use lib.ListN.{getD}
 use borrow.Author.Tests.{le-leb, lt-leb, lt-ltb, le-ltb}
-use Rattle.reach.specs.Reach.{firstPlace}
+use Rattle.limits.specs.Reach.{firstPlace}
 use Rattle.search.specs.Limits.{passesAt}
 use Rattle.search.proofs.passes.Statement.{statement}
 use Rattle.search.proofs.passes.Tie as tie

@@ -7,8 +7,8 @@ use lib.IntN.{ℤ}
 use Rattle.model.specs.Block.{mostBits}
 use Rattle.metric.specs.Tables.{Tabled}
 use Rattle.metric.proofs.Tables.{rows-tabled}
-use Rattle.pruning.specs.Program.{keptOf, takenIn, fresh, below}
-use Rattle.search.specs.Limits.{vectorFor}
+use Rattle.hypotheses.specs.Limits.{vectorFor}
+use Rattle.search_spec.specs.Program.{keptOf, takenIn, fresh, below}
 use Rattle.search.proofs.Values.{keys-many, root-asked, end-low, end-answered}
 use Rattle.search.proofs.search_vector.Statement.{statement}
 use Rattle.search.proofs.search_vector.Tie as tie
@@ -35,17 +35,15 @@ walked c = c .begin .ensures .0
 
 write-soft-requires : tie.Need-write-soft-requires
 write-soft-requires c κs =
-    let z = c .before .before in
-    let w = z .before .before .before .before in
+    let w = c .before .before .before .before .before in
     let s = w .before .before .before .before .before .before .before in
-    rw (z .sizes-of .ensures) (s .pre .0, end-low (s .pre .0) (s .args .task .allowance) (walked w), w .begin .ensures .1)
+    (s .pre .0, end-low (s .pre .0) (s .args .task .allowance) (walked w), w .begin .ensures .1)
 
 returns : tie.Need-returns
 returns c =
-    let z = c .before .before .before in
-    let w = z .before .before .before .before in
+    let w = c .before .before .before .before .before .before in
     let s = w .before .before .before .before .before .before .before in
-    end-answered (s .pre .0) (s .args .task .allowance) (walked w) _ _ (s .pre .1) (rw (z .sizes-of .ensures) at (c .write-soft .ensures))
+    end-answered (s .pre .0) (s .args .task .allowance) (walked w) _ _ (s .pre .1) (c .write-soft .ensures)
 
 pub search-vector-spec : {M : Type 1} → statement M
 search-vector-spec =
@@ -54,7 +52,6 @@ search-vector-spec =
     (λ c κs. search needs)
     (λ c. search needs)
     begin-requires
-    (λ c κs. search needs)
     (λ c. search needs)
     write-soft-requires
     (λ c. search needs)

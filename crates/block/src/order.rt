@@ -1,0 +1,89 @@
+// Which kinds of number a part of the record has, how many and in which order: document 01, "The record".
+use super::Kind;
+use super::Part;
+use super::Run;
+ghost use mathlib.Core.Path.{_≡_};
+ghost use Prim.Native.Nat.{_+_, _*_, _<_};
+ghost use lib.ListN.{length, getD};
+ghost use Rattle.block.specs.Reading.{noRun, Small, runsOf};
+
+// The i-th run of Q, N, C and D.
+fn size_run(m: i32, i: usize) -> Run
+    requires { ⌜ i < 4 ⌝ }
+    ensures { λ r. ⌜ r ≡ getD (runsOf (Part.Sizes m)) i noRun ⌝ }
+{
+    match i {
+        0 => Run {
+            kind: Kind::SymbolWidth(m),
+            count: 1,
+        },
+        1 => Run {
+            kind: Kind::VectorCount,
+            count: 1,
+        },
+        2 => Run {
+            kind: Kind::ClipLevel,
+            count: 1,
+        },
+        _ => Run {
+            kind: Kind::NodeShare(m),
+            count: 1,
+        },
+    }
+}
+
+// The i-th run of a vector: two for each row of R, then y, then the priors.
+fn vector_run(m: usize, q: usize, i: usize) -> Run
+    requires { ⌜ Small (Part.Vector m q) × (i < 2 * m + 2) ⌝ }
+    ensures { λ r. ⌜ r ≡ getD (runsOf (Part.Vector m q)) i noRun ⌝ }
+{
+    if i < 2 * m {
+        if i % 2 == 0 {
+            return Run {
+                kind: Kind::DiagonalEntry,
+                count: 1,
+            };
+        }
+        return Run {
+            kind: Kind::RightPart,
+            count: 2 * (m - 1 - i / 2),
+        };
+    }
+    if i == 2 * m {
+        return Run {
+            kind: Kind::ReceivedPart,
+            count: 2 * m,
+        };
+    }
+    Run {
+        kind: Kind::BitPrior,
+        count: m * q,
+    }
+}
+
+// How many runs a part has.
+pub(super) fn run_count(part: Part) -> usize
+    requires { ⌜ Small part ⌝ }
+    ensures { λ r. ⌜ r ≡ length (runsOf part) ⌝ }
+{
+    match part {
+        Part::First => 1,
+        Part::Sizes(_) => 4,
+        Part::Vector(m, _) => 2 * m + 2,
+    }
+}
+
+// The i-th run of a part.
+pub(super) fn run_at(part: Part, i: usize) -> Run
+    requires { ⌜ Small part × (i < length (runsOf part)) ⌝ }
+    ensures { λ r. ⌜ r ≡ getD (runsOf part) i noRun ⌝ }
+{
+    match part {
+        Part::First => Run {
+            kind: Kind::StreamCount,
+            count: 1,
+        },
+        Part::Sizes(m) => size_run(m, i),
+        Part::Vector(m, q) => vector_run(m, q, i),
+    }
+}

@@ -1,0 +1,55 @@
+-- One axis, then the other.
+use borrow.Author.Needs.{needs}
+use mathlib.Core.Path.{ap, _∙_}
+use native.Mathlib.Omega.{arith}
+use mir.Syntax.{w64}
+use mir.Val.{SFits}
+use mir.Facts.{toZ-ofZ}
+use Rattle.integers.proofs.Fits.{sfits-abs}
+use Rattle.metric.specs.Parts.{filledFrom}
+use Rattle.metric.specs.Tables.{partsIn}
+use Rattle.metric.specs.Tables.Axis.{real, imaginary}
+use Rattle.metric.proofs.Bridge.{axis-asked}
+use Rattle.metric.proofs.axes.fill_parts.Statement.{statement}
+use Rattle.metric.proofs.axes.fill_parts.Tie as tie
+
+-- What remains
+re-fits : (s : tie.Start) → SFits w64 (s .args .left .re)
+re-fits s = sfits-abs _ (omega (arith, s .pre .3))
+
+im-fits : (s : tie.Start) → SFits w64 (s .args .left .im)
+im-fits s = sfits-abs _ (omega (arith, s .pre .4))
+
+real-asked : tie.Need-fill-axis-requires
+real-asked c κs =
+    let s = c .before .before in
+    let f = re-fits s in
+    (simp toZ-ofZ (axis-asked (s .pre .0) (s .args .row) (s .pre .2) (s .pre .1) real (s .args .left .re) (s .pre .3)), omega arith)
+
+imaginary-asked : tie.Need-fill-axis-requires-2
+imaginary-asked c κs =
+    let s = c .before .before .before .before .before in
+    let f = im-fits s in
+    (simp toZ-ofZ (axis-asked (s .pre .0) (s .args .row) (s .pre .2) (s .pre .1) imaginary (s .args .left .im) (s .pre .4)), omega arith)
+
+returns : tie.Need-returns
+unfolding partsIn
+returns c =
+    let a = c .before .before .before in
+    let s = a .before .before .before in
+    let f = re-fits s in
+    let g = im-fits s in
+    simp toZ-ofZ at (c .fill-axis2 .ensures) ∙ ap (filledFrom _ _ _) (simp toZ-ofZ at (a .fill-axis .ensures))
+
+pub fill-parts-spec : {M : Type 1} → statement M
+fill-parts-spec =
+    tie.close
+    (tie.spec
+    (λ c. search needs)
+    (λ c. search needs)
+    (λ c. search needs)
+    real-asked
+    (λ c. search needs)
+    (λ c. search needs)
+    imaginary-asked
+    returns)

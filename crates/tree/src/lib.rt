@@ -1,0 +1,37 @@
+// The small types of a tree search, passed by value between its crates: what is asked, a node, what is kept, and the number above every
+// metric.
+
+// What a search is asked: a vector's M, Q and C, and its allowance (document 01's term).
+pub struct Task {
+    pub streams: usize,
+    pub width: usize,
+    pub clip: u32,
+    pub allowance: u32,
+}
+
+// A node: how many streams are not chosen yet, its partial metric, the widest limit of those of its bits that are opposite to the best
+// label's, and the bits that are chosen, as a number. With no stream left to choose it is a leaf, and these are a label and its metric.
+pub struct Node {
+    pub level: usize,
+    pub partial: u64,
+    pub chosen: u64,
+    pub bits: u32,
+}
+
+// What a search has kept, but for the minima: the best label's metric, nodes counted, that label (document 01's m, the MAP hypothesis of
+// the leaves walked), and the mark.
+pub struct Kept {
+    pub best: u64,
+    pub count: u32,
+    pub label: u32,
+    pub stopped: bool,
+}
+
+// A complex number whose parts are whole numbers.
+pub struct Complex {
+    pub re: i64,
+    pub im: i64,
+}
+
+// Above every metric, which document 01 bounds by 2 to the 39: an infinite least metric, and the key of a child that was taken.
+pub const ABOVE: u64 = 549755813888;
