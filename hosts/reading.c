@@ -4,10 +4,6 @@
 #include <stdio.h>
 #include <string.h>
 
-/* A macro's value as a string. */
-#define TEXT(word) #word
-#define TEXT_OF(macro) TEXT(macro)
-
 int complain(const char *path, const char *what, int error)
 {
     fflush(stdout);
@@ -36,7 +32,9 @@ int read_record(const char *path, struct record *record)
         return complain(path, "the file cannot be read", error);
     }
     if (is_too_large) {
-        return complain(path, "the file is too large, a record has at most " TEXT_OF(GECKONEEDLE_RECORD_MAX) " bytes", 0);
+        char what[80];
+        snprintf(what, sizeof what, "the file is too large, a record has at most %d bytes", GECKONEEDLE_RECORD_MAX);
+        return complain(path, what, 0);
     }
     return 0;
 }

@@ -12,18 +12,17 @@
 #include <stdio.h>
 #include <string.h>
 
-#include "geckoneedle.h"
+#include "geckoneedle_text.h"
 #include "layout.h"
 #include "numbers.h"
 #include "reading.h"
-#include "refusals.h"
 
 /*
  * The index of the number for which a list is refused, by another refusal than 2. geckoneedle_write checks number by number, and the first check
  * that fails decides. So a beginning of the list that has the refused number is refused as the whole list is, and one that ends before it is not:
  * all its numbers pass, and it gets 2 where M, Q and N call for more, else 14, since it is lent no memory. (crates/records/proofs/Beginnings.antt
  * has the proof.) The number is the last of the shortest beginning that is refused as the whole list is, and no range is checked here a second
- * time. These are at most 3,077 calls.
+ * time. These are at most as many calls as a record has numbers.
  */
 static size_t refused_index(const struct numbers *list, int64_t refusal)
 {
@@ -53,14 +52,14 @@ static void explain_number(const char *name, const struct numbers *list, int64_t
     size_t index = refused_index(list, refusal);
     struct position at = list->positions[index];
     fprintf(stderr, "%s: line %lu, column %lu: number %zu ", name, at.line, at.column, index + 1);
-    if (refusal == GECKONEEDLE_TRAILING) {
+    if (refusal == GECKONEEDLE_REFUSED_TRAILING) {
         fprintf(stderr, "follows the last prior; M, Q and N call for %zu numbers", index);
         return;
     }
     fprintf(stderr, "is %" PRId32 ": ", list->values[index]);
     print_place(stderr, index, list->values);
-    fprintf(stderr, ": it must be %s", range_words(refusal));
-    if (refusal == GECKONEEDLE_SHARE || refusal == GECKONEEDLE_FOUR_WIDE) {
+    fprintf(stderr, ": it must be %s", geckoneedle_range_text(refusal));
+    if (refusal == GECKONEEDLE_REFUSED_SHARE || refusal == GECKONEEDLE_REFUSED_FOUR_WIDE) {
         fprintf(stderr, ", and M is %" PRId32, list->values[0]);
     }
 }
@@ -68,12 +67,12 @@ static void explain_number(const char *name, const struct numbers *list, int64_t
 /* Says why a list is refused. Returns 1. */
 static int explain(const char *name, const struct numbers *list, int64_t refusal)
 {
-    if (refusal == GECKONEEDLE_ENDS) {
+    if (refusal == GECKONEEDLE_REFUSED_ENDS) {
         explain_end(name, list);
-    } else if (refusal == GECKONEEDLE_TRAILING || range_words(refusal) != NULL) {
+    } else if (refusal == GECKONEEDLE_REFUSED_TRAILING || geckoneedle_range_text(refusal) != NULL) {
         explain_number(name, list, refusal);
     } else {
-        fprintf(stderr, "%s: %s", name, refusal_words(refusal));
+        fprintf(stderr, "%s: %s", name, geckoneedle_refusal_text(refusal));
     }
     fprintf(stderr, " (refused by %" PRId64 ")\n", refusal);
     return 1;
@@ -120,7 +119,7 @@ static int show_numbers(const char *path)
     }
     int64_t returned = geckoneedle_read(record.bytes, record.length, numbers, GECKONEEDLE_NUMBERS_MAX);
     if (returned < 0) {
-        fprintf(stderr, "%s: refused by %" PRId64 ": %s\n", path, -returned, refusal_words(-returned));
+        fprintf(stderr, "%s: refused by %" PRId64 ": %s\n", path, -returned, geckoneedle_refusal_text(-returned));
         return 1;
     }
     print_text(numbers);

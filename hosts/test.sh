@@ -1,13 +1,19 @@
 #!/bin/sh
 # Tests the host programs: builds them, and holds what they print and their exit status to samples/ and hosts/expected. The Rust reference makes
-# these (the gate checks that it still does); only hosts/expected/lists was typed from the documents. Says what is wrong and ends with status 1,
-# or ends with 0.
+# these (the gate checks that it still does); only hosts/expected/lists and hosts/expected/replies were typed from the documents. Then the
+# installed tree, and what the Makefile proves again and what not. Says what is wrong and ends with status 1, or ends with 0.
 set -eu
 cd "$(dirname "$0")/.."
 made="example stopped priors signed-priors full full-stopped wide"
 written="bench tie points"
 broken="empty other-opening cut trailing"
 samples=$(for name in $made refused refused-wide $written $broken; do echo samples/$name.rec; done)
+short=$(for name in $made $written; do echo samples/$name.rec; done | grep -v full)
+
+# The longest record's bytes and numbers, by the samples. The C side has them in geckoneedle.h and nowhere else, and must agree.
+longest=$(($(wc -c <samples/too-long.rec) - 1))
+most=$(($(sed 's/#.*//' samples/full.numbers | wc -w)))
+lines=$(($(wc -l <samples/full.numbers)))
 
 fail() {
     echo "hosts: $1"
@@ -72,6 +78,66 @@ refuse_lists() {
     done <hosts/expected/lists
 }
 
+# decode_replies RECORDS CHECKER...: build/replies on the list of replies, and on these records' replies, whole, cut off behind each byte, and with
+# each byte altered.
+decode_replies() {
+    records=$1
+    shift
+    expect 0 "the decoder on hosts/expected/replies" "$@" build/replies -l <hosts/expected/replies
+    complains "" "the decoder on hosts/expected/replies"
+    expect 0 "the decoder on the samples' replies" "$@" build/replies $records
+    complains "" "the decoder on the samples' replies"
+}
+
+# compiles COMPILER...: the two headers, each alone, and the decoder, without a warning.
+compiles() {
+    for source in include/geckoneedle.h hosts/geckoneedle_text.h hosts/geckoneedle_text.c; do
+        "$@" -Wall -Wextra -Werror -pedantic -fsyntax-only -Iinclude $source || fail "$source does not compile by $*"
+    done
+}
+
+# make_here ARGUMENTS...: make, with no arguments of a make that runs this test. It takes the library as it is, as all else here does, even where
+# something is newer that it is made from.
+make_here() {
+    MAKEFLAGS= make --silent --old-file=build/libgeckoneedle.a "$@"
+}
+
+# Makes a tree of its own in build/tree, with a stand-in for rt that proves nothing: it notes its arguments, says what rt would say, and gives
+# the library that is there. Or it fails, where a file asks for it.
+plant_tree() {
+    rm -rf build/tree
+    mkdir -p build/tree/bin build/tree/crates/one/src
+    cp -R Makefile .ci crates.txt include hosts samples build/tree
+    cp build/libgeckoneedle.a build/tree/bin
+    echo "fn one" >build/tree/crates/one/src/one.rt
+    cat >build/tree/bin/rt <<'script'
+#!/bin/sh
+echo "$@" >>calls
+echo "fn one::one: proved"
+[ ! -f fails ] || { echo "rt: one NOT PROVED"; exit 1; }
+echo "rt: one proved (7 s)"
+echo "rt: other proved (unchanged since it was last proved)"
+mkdir -p target/staticlib target/bin
+cp bin/libgeckoneedle.a target/staticlib/libdetector.a
+cp bin/libgeckoneedle.a target/staticlib/librecords.a
+printf '#!/bin/sh\nwc -c\n' >target/bin/list
+chmod +x target/bin/list
+[ "$1" = check ] || echo "rt: target/staticlib/lib$2.a has the functions of $2 that are marked"
+script
+    chmod +x build/tree/bin/rt
+}
+
+# makes STATUS CALLS TARGETS...: make in that tree; asks for this exit status, and for these calls of rt, as "a b, c d, ".
+makes() {
+    calls=$2
+    : >build/tree/calls
+    wanted=$1
+    shift 2
+    expect "$wanted" "make $*" env MAKEFLAGS= PATH="$PWD/build/tree/bin:$PATH" make -C build/tree --no-print-directory "$@"
+    called=$(awk '{ printf "%s, ", $0 }' build/tree/calls)
+    [ "$called" = "$calls" ] || fail "make $*: rt is called with '$called' where '$calls' is due"
+}
+
 hosts/build.sh || fail "the host programs do not build"
 
 # Samples: word for word, and the exit status says that some are refused.
@@ -93,6 +159,11 @@ cat build/printed >>build/refusals/printed
 same hosts/expected/refusals build/refusals/printed "the refusals"
 expect 0 "a buffer that just does" build/detect -b 41 samples/example.rec
 
+# The decoder. What build/detect printed of the samples above went through it too, and is the reference's.
+compiles gcc -std=c99 -x c
+decode_replies "$samples"
+echo "hosts: $(cat build/printed)"
+
 # Files that are no records: said on standard error, and the other files are still run.
 expect 1 "a missing file" build/detect build/missing.rec samples/example.rec
 complains "build/missing.rec: the file cannot be opened: No such file or directory" "a missing file"
@@ -100,7 +171,7 @@ grep -q "vector 2: stopped after 2 nodes, label 2, soft values -10 10" build/pri
 expect 1 "a folder" build/detect samples
 complains "samples: the file cannot be read: Is a directory" "a folder"
 expect 1 "too large a file" build/detect samples/too-long.rec
-complains "samples/too-long.rec: the file is too large, a record has at most 8207 bytes" "too large a file"
+complains "samples/too-long.rec: the file is too large, a record has at most $longest bytes" "too large a file"
 expect 2 "no file" build/detect
 expect 2 "no buffer length" build/detect -b 41x samples/example.rec
 
@@ -124,8 +195,8 @@ same samples/example.rec build/printed "the example in other words"
 # One number more than any record has, and what is behind it does not matter.
 { cat samples/full.numbers && echo "4 abc"; } >build/list.numbers
 expect 1 "a number more than any record has" build/record build/list.numbers
-complains "build/list.numbers: line 642, column 1: number 3078 follows the last prior; M, Q and N call for 3077 numbers (refused by 13)" \
-    "a number more than any record has"
+complains "build/list.numbers: line $((lines + 1)), column 1: number $((most + 1)) follows the last prior;\
+ M, Q and N call for $most numbers (refused by 13)" "a number more than any record has"
 
 # Standard input; and a file for the record, which is made, replaced, or left as it is.
 expect 0 "standard input" build/record <samples/bench.numbers
@@ -163,7 +234,7 @@ done
 expect 1 "a full disk for the numbers" sh -c "build/record -n samples/full.rec >/dev/full"
 complains "record: the output cannot be written" "a full disk for the numbers"
 expect 1 "too large a record" build/record -n samples/too-long.rec
-complains "samples/too-long.rec: the file is too large, a record has at most 8207 bytes" "too large a record"
+complains "samples/too-long.rec: the file is too large, a record has at most $longest bytes" "too large a record"
 cp samples/example.numbers build/own.numbers
 expect 2 "a record in its text's place" build/record -o build/own.numbers build/own.numbers
 complains "record: the record would take the place of its own text, build/own.numbers" "a record in its text's place"
@@ -184,6 +255,7 @@ same build/refusals/expected build/refusals/complaints "the numbers of refused r
 
 # The program that README.md shows.
 awk '/^```c$/ { inside = 1; next } /^```$/ { inside = 0 } inside' README.md >build/readme.c
+make_here build/geckoneedle.h
 gcc -std=c99 -Wall -Wextra -Werror -Ibuild build/readme.c build/libgeckoneedle.a -o build/readme || fail "README.md's program does not build"
 [ "$(build/readme <samples/example.rec)" = "a reply of 17 bytes" ] || fail "README.md's program does not run"
 [ "$(build/readme <samples/too-long.rec)" = "refused by 13" ] || fail "README.md's program takes too long a record"
@@ -195,6 +267,82 @@ same samples/example.rec build/printed "README.md's text"
 sed "1s/10 3/10 1/" build/readme.numbers >build/block.numbers
 expect 1 "README.md's text with another share" sh -c "cd build && ./record block.numbers"
 grep -qxF "    $(cat build/complaints)" README.md || fail "README.md does not show what is said: $(cat build/complaints)"
+
+# The installed tree, and a staged one, which is laid out alike and says where it will be.
+rm -rf build/installed build/staged
+make_here install DESTDIR= PREFIX="$PWD/build/installed" || fail "make install"
+make_here install DESTDIR="$PWD/build/staged" PREFIX=/opt/gecko || fail "make install with a DESTDIR"
+for tree in installed staged/opt/gecko; do
+    [ "$(cd build/$tree && find . -type f | sort | tr '\n' ' ')" = "./include/geckoneedle.h ./include/geckoneedle_text.h\
+ ./lib/libgeckoneedle.a ./lib/libgeckoneedle_text.a ./lib/pkgconfig/geckoneedle.pc " ] || fail "make install: build/$tree has other files"
+done
+grep -qx "prefix=/opt/gecko" build/staged/opt/gecko/lib/pkgconfig/geckoneedle.pc || fail "make install: a staged geckoneedle.pc has another prefix"
+
+# A program that has nothing but the installed tree prints each sample's answers: the reference's, in other words.
+sed -n -e 's/^  vector [0-9]*: complete after [0-9]* nodes*, label \([0-9]*\), soft values/label \1:/p' \
+    -e 's/^  vector [0-9]*: stopped after [0-9]* nodes*, label \([0-9]*\), soft values\(.*\)/label \1:\2 (stopped)/p' \
+    hosts/expected/samples >build/minimal.expected
+# minimal COMPILER...: builds hosts/minimal.c by this compiler and what pkg-config says, and runs it.
+minimal() {
+    rm -f build/minimal
+    "$@" -Wall -Wextra -Werror -pedantic hosts/minimal.c $flags -o build/minimal || fail "hosts/minimal.c does not build by $*"
+    for name in $made $written; do
+        build/minimal <samples/$name.rec || fail "hosts/minimal.c does not accept $name"
+    done >build/minimal.printed
+    same build/minimal.expected build/minimal.printed "hosts/minimal.c"
+    expect 1 "hosts/minimal.c on a refused record" build/minimal <samples/refused.rec
+    [ "$(cat build/printed)" = "refused: a prior is not -1048575 to 1048575" ] || fail "hosts/minimal.c does not say why a record is refused"
+}
+if command -v pkg-config >/dev/null; then
+    export PKG_CONFIG_PATH="$PWD/build/installed/lib/pkgconfig"
+    flags=$(pkg-config --cflags --libs geckoneedle) || fail "pkg-config does not find what was installed"
+    version=$(pkg-config --modversion geckoneedle)
+    grep -q "^#define GECKONEEDLE_VERSION \"$version\"" include/geckoneedle.h || fail "geckoneedle.pc has version '$version', not the header's"
+    minimal gcc -std=c99
+else
+    echo "hosts: SKIPPED: pkg-config is not installed, so no program was built against the installed tree"
+fi
+if command -v g++ >/dev/null; then
+    compiles g++ -x c++
+    ! command -v pkg-config >/dev/null || minimal g++ -x c++
+else
+    echo "hosts: SKIPPED: g++ is not installed, so nothing was compiled as C++"
+fi
+
+# The Makefile: lists what there is; says a line for each crate; and proves again what has changed, and nothing else.
+plant_tree
+makes 0 "" help
+cp build/printed build/help
+makes 0 ""
+same build/help build/printed "make alone"
+for target in run list record numbers lib host install test bench instructions figures clean; do
+    grep -q "^make $target " build/help || fail "make does not list '$target'"
+done
+makes 2 "" list
+makes 2 "" record NUMBERS=missing RECORD=none
+makes 0 "staticlib detector, staticlib records, " lib
+[ "$(tr '\n' ';' <build/printed)" = "one proved (7 s);detector proved, and built as a library;one proved (7 s);records proved, and built as a library;" ] ||
+    fail "make lib: not a line for each crate: $(cat build/printed)"
+grep -q "fn one::one: proved" build/tree/build/lib.log || fail "make lib: build/lib.log has not what rt says"
+makes 0 "" lib host install numbers PREFIX=installed RECORD=samples/example.rec
+makes 0 "check list, " run
+makes 0 "" run
+rm -r build/tree/target
+makes 0 "" run lib list RECORD=samples/example.rec
+touch build/tree/include/geckoneedle.h build/tree/hosts/geckoneedle_text.c
+makes 0 "" lib host install PREFIX=installed
+echo "fn two" >build/tree/crates/one/src/two.rt
+makes 0 "staticlib detector, staticlib records, check list, " host run
+rm build/tree/crates/one/src/two.rt
+: >build/tree/fails
+makes 2 "staticlib detector, " host
+grep -q "rt: one NOT PROVED" build/printed || fail "make host: what rt refuses is not shown"
+makes 2 "check list, " run
+rm build/tree/fails
+makes 0 "check list, staticlib detector, staticlib records, " run lib
+makes 0 "" run lib host
+makes 0 "" clean
+[ ! -e build/tree/build ] || fail "make clean leaves build/"
 
 # Two threads at once, against one.
 expect 0 "two threads" build/threads 50 $samples
@@ -211,6 +359,7 @@ if command -v valgrind >/dev/null; then
     write_samples $checker
     read_samples $checker
     refuse_lists $checker
+    decode_replies "$short" $checker
     echo "hosts: no error under valgrind"
 else
     echo "hosts: SKIPPED: valgrind is not installed, so nothing was run under it"

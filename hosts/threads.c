@@ -1,6 +1,6 @@
 /*
  * threads ROUNDS FILE...: runs the detector on record files from two threads at once, ROUNDS times each, every thread with buffers of its
- * own, and holds each returned number and every byte of the buffer to those of a single-threaded run before.
+ * own, and holds each returned number, every byte of the buffer and the nodes that the reply tells to those of a single-threaded run before.
  *
  * Exit status: 0 if all are equal, 1 if one differs or a file could not be read, 2 for wrong arguments or no memory.
  */
@@ -11,7 +11,7 @@
 #include <stdlib.h>
 #include <string.h>
 
-#include "geckoneedle.h"
+#include "geckoneedle_text.h"
 #include "reading.h"
 
 enum { THREADS = 2 };
@@ -21,6 +21,7 @@ struct expected {
     struct record record;
     int64_t returned;
     uint8_t reply[GECKONEEDLE_REPLY_MAX];
+    int64_t nodes;
 };
 
 /* What all threads read, and none writes. */
@@ -48,11 +49,28 @@ static int64_t detect(const struct record *record, uint8_t *reply)
     return geckoneedle_detect(record->bytes, record->length, reply, GECKONEEDLE_REPLY_MAX);
 }
 
+/* The nodes of all vectors of a reply, 0 where there is none since the record was refused, or minus a fault where the bytes are no reply. */
+static int64_t nodes_walked(const uint8_t *reply, int64_t returned)
+{
+    struct geckoneedle_reply decoder;
+    struct geckoneedle_vector vector;
+    int64_t nodes = 0;
+    int vectors = returned < 0 ? 0 : geckoneedle_reply_begin(&decoder, reply, (size_t)returned);
+    if (vectors <= 0) {
+        return vectors;
+    }
+    while (geckoneedle_reply_next(&decoder, &vector) == 1) {
+        nodes += vector.nodes;
+    }
+    return nodes;
+}
+
 static void compare(struct own *own, const struct expected *expected)
 {
     own->record = expected->record;
     int64_t returned = detect(&own->record, own->reply);
-    if (returned != expected->returned || memcmp(own->reply, expected->reply, sizeof own->reply) != 0) {
+    int is_same = returned == expected->returned && memcmp(own->reply, expected->reply, sizeof own->reply) == 0;
+    if (!is_same || nodes_walked(own->reply, returned) != expected->nodes) {
         own->differing++;
     }
 }
@@ -99,7 +117,7 @@ static long run_threads(const struct expected *all, size_t count, unsigned long 
     return differing;
 }
 
-/* Reads the files and runs the detector on each. Returns 0, or 1 if a file could not be read. */
+/* Reads the files and runs the detector on each. Returns 0, or 1 if a file could not be read, or if what the detector wrote is no reply. */
 static int run_single(struct expected *all, size_t count, char **paths)
 {
     for (size_t at = 0; at < count; at++) {
@@ -107,6 +125,11 @@ static int run_single(struct expected *all, size_t count, char **paths)
             return 1;
         }
         all[at].returned = detect(&all[at].record, all[at].reply);
+        all[at].nodes = nodes_walked(all[at].reply, all[at].returned);
+        if (all[at].nodes < 0) {
+            fprintf(stderr, "%s: the detector wrote no reply: %s\n", paths[at], geckoneedle_fault_text((int)-all[at].nodes));
+            return 1;
+        }
     }
     return 0;
 }

@@ -1,15 +1,17 @@
 /*
- * Geckoneedle: a soft-value detector for the four-stream modes of IEEE 802.11.
+ * Geckoneedle: a soft-output MIMO detector (single tree search, clipped max-log soft values) for
+ * up to four spatial streams of IEEE 802.11, BPSK to 256-QAM. The library is for x86-64.
  *
- * geckoneedle_detect takes one block record and writes one reply. geckoneedle_write makes a record of a list of its whole numbers, and
- * geckoneedle_read takes a record apart into this list. The record's layout, and what it means, are in document 01; the reply's and the
- * list's are below.
+ * Every call reads one memory and fills another. It
+ *   - returns how many entries it wrote, from the first place on, and alters none behind them;
+ *   - or returns minus a refusal's number, and alters nothing.
+ * This is proved, for every content and every length. The proof stands on what C asks of the
+ * caller: pointers are not NULL (not even with a length of 0), aligned, and valid for their length;
+ * the two memories do not overlap, and nobody else writes to either during the call.
  *
- * The functions behind this header are proved: for whatever they are given to read and however much memory they are lent, the returned number
- * and all of the lent memory afterwards are those that the project's definitions say. The proof stands on what C promises at the call: each
- * pointer points to as many bytes or numbers as the length behind it says, which may be read, and written where the pointer is not to const;
- * a pointer to numbers is aligned as int32_t asks; the two memories of a call do not overlap, and nobody else writes to either during the
- * call. A length of 0 is fine with any pointer that is aligned so and not null.
+ * Calls keep no state, allocate nothing and may be made from any number of threads.
+ * Stack, measured: detect 28 KiB, read 13 KiB, write below 1 KiB; 64 KiB are enough.
+ * geckoneedle_text.h has the refusals in words, and a decoder for replies.
  */
 #ifndef GECKONEEDLE_H
 #define GECKONEEDLE_H
@@ -17,113 +19,79 @@
 #include <stddef.h>
 #include <stdint.h>
 
+#define GECKONEEDLE_VERSION "0.3.0" /* 0, the requests that have landed, corrections */
+
+/* At most: vectors of a block, bits of a label, bytes of a record, numbers that it is made of. */
+#define GECKONEEDLE_VECTORS_MAX 64
+#define GECKONEEDLE_LABEL_BITS_MAX 24
+#define GECKONEEDLE_RECORD_MAX (15 + 128 * GECKONEEDLE_VECTORS_MAX)
+#define GECKONEEDLE_NUMBERS_MAX (5 + 48 * GECKONEEDLE_VECTORS_MAX)
+
+/* The reply buffer that a block of m streams, q bits a symbol and n vectors asks for; at most. */
+#define GECKONEEDLE_REPLY_ROOM(m, q, n) \
+    ((size_t)7 + (size_t)(n) * ((size_t)9 + (size_t)4 * (size_t)(m) * (size_t)(q)))
+#define GECKONEEDLE_REPLY_MAX \
+    GECKONEEDLE_REPLY_ROOM(1, GECKONEEDLE_LABEL_BITS_MAX, GECKONEEDLE_VECTORS_MAX)
+
 #ifdef __cplusplus
 extern "C" {
 #endif
 
-/* A record is never longer than this. */
-#define GECKONEEDLE_RECORD_MAX 8207
-
-/* A record never has more numbers than this: 5, and 48 for each of 64 vectors. */
-#define GECKONEEDLE_NUMBERS_MAX 3077
-
-/*
- * The buffer that a reply to a record of m streams, q bits a symbol and n vectors asks for. A shorter one is refused (14); the reply itself
- * may be shorter.
- */
-#define GECKONEEDLE_REPLY_ROOM(m, q, n) ((size_t)7 + (size_t)(n) * ((size_t)9 + (size_t)4 * (size_t)(m) * (size_t)(q)))
-
-/* The largest of these: four streams of six bits or three of eight, 64 vectors. A buffer of this size is never refused. */
-#define GECKONEEDLE_REPLY_MAX 6727
-
-/*
- * Why a record was refused. Checks follow the record's order, each number is read and then ranged before the next, and the first check
- * that fails decides.
- *
- * The words below are of records, as geckoneedle_detect refuses them. geckoneedle_read refuses by 1 to 13 and 15 in the same words, and
- * geckoneedle_write by 4 to 12 and 15, but its list may hold a negative number where a record cannot: there 7 means that C is not 0 to
- * 16,777,215. What 2 and 13 mean of a list, and 14 of other memory than a reply buffer, is said at these two functions.
- */
+/* Refusals. Checks go number by number, each read and then ranged; the first to fail decides. */
 enum geckoneedle_refusal {
-    GECKONEEDLE_OPENING = 1,    /* the first four bytes are missing or not 43 42 52 31 */
-    GECKONEEDLE_ENDS = 2,       /* the record ends before a number's last group */
-    GECKONEEDLE_MALFORMED = 3,  /* a number of four groups that has no last one, or whose last group is 0 after another */
-    GECKONEEDLE_STREAMS = 4,    /* M is not 1 to 4 */
-    GECKONEEDLE_WIDTH = 5,      /* Q is not 1, 2, 4, 6 or 8 */
-    GECKONEEDLE_VECTORS = 6,    /* N is not 1 to 64 */
-    GECKONEEDLE_CLIP = 7,       /* C is above 16,777,215 */
-    GECKONEEDLE_SHARE = 8,      /* D is not M to 17,043,520 */
-    GECKONEEDLE_DIAGONAL = 9,   /* an entry on R's diagonal is not 1 to 2,047 */
-    GECKONEEDLE_ENTRY = 10,     /* a part of an entry right of it is not -2,047 to 2,047 */
-    GECKONEEDLE_RECEIVED = 11,  /* a part of y is not -131,071 to 131,071 */
-    GECKONEEDLE_PRIOR = 12,     /* a prior is not -1,048,575 to 1,048,575 */
-    GECKONEEDLE_TRAILING = 13,  /* bytes follow the last prior */
-    GECKONEEDLE_BUFFER = 14,    /* the reply buffer is shorter than GECKONEEDLE_REPLY_ROOM(M, Q, N) */
-    GECKONEEDLE_FOUR_WIDE = 15  /* Q is 8 and M is 4, where three streams are the most; checked after 5, before N is read */
+    GECKONEEDLE_REFUSED_OPENING = 1,   /* the first four bytes are missing or not 43 42 52 31 */
+    GECKONEEDLE_REFUSED_ENDS = 2,      /* the record, or the list of numbers, ends early */
+    GECKONEEDLE_REFUSED_MALFORMED = 3, /* a fourth group that is not the last, a needless 0 group */
+    GECKONEEDLE_REFUSED_STREAMS = 4,   /* M is not 1 to 4 */
+    GECKONEEDLE_REFUSED_WIDTH = 5,     /* Q is not 1, 2, 4, 6 or 8 */
+    GECKONEEDLE_REFUSED_VECTORS = 6,   /* N is not 1 to 64 */
+    GECKONEEDLE_REFUSED_CLIP = 7,      /* C is not 0 to 16,777,215 */
+    GECKONEEDLE_REFUSED_SHARE = 8,     /* D is not M to 17,043,520 */
+    GECKONEEDLE_REFUSED_DIAGONAL = 9,  /* a diagonal entry of R is not 1 to 2,047 */
+    GECKONEEDLE_REFUSED_ENTRY = 10,    /* a part of an entry right of it is not -2,047 to 2,047 */
+    GECKONEEDLE_REFUSED_RECEIVED = 11, /* a part of y is not -131,071 to 131,071 */
+    GECKONEEDLE_REFUSED_PRIOR = 12,    /* a prior is not -1,048,575 to 1,048,575 */
+    GECKONEEDLE_REFUSED_TRAILING = 13, /* something follows the last prior */
+    GECKONEEDLE_REFUSED_BUFFER = 14,   /* the memory to fill is too short; checked last */
+    GECKONEEDLE_REFUSED_FOUR_WIDE = 15 /* Q is 8 and M is 4; checked after 5, before N is read */
 };
 
 /*
- * Detects one block.
- *
- * Returns the reply's length, which is positive, or minus the refusal's number. A refusal alters no byte of the buffer; a reply alters its own
- * bytes, from the buffer's first on, and none behind them.
- *
- * The reply: 43 42 53 31; M, Q, N; then for each vector, in the record's order
- *
- *     mark      0: the search is complete; 1: the allowance stopped it
- *     nodes     how many nodes it walked
- *     label     the M x Q bits of the best label as one number, stream 1 first, each stream's first bit highest
- *     values    M x Q soft values in the same order, each from -C to C and folded: n as 2n if n is at least 0, else -2n - 1.
- *               A positive value says 0, a negative one 1.
- *
- * Every number is in groups of seven bits, least significant first, the high bit set on every group but the last, at most four groups.
- *
- * A vector marked 1 reports over the labels that its search reached; a bit that has no such label on one side gets +C or -C, and deserves
- * less trust than the value says. Every vector walks at least M nodes, so there is always a label.
- *
- * Nothing is kept between calls: no global state, no allocation, no file. Calls from several threads need no lock, as long as their buffers
- * are their own. Stack: about 28 KiB, whatever the record is (measured on x86-64); 64 KiB are enough.
- */
-int64_t geckoneedle_detect(const uint8_t *record, size_t record_len, uint8_t *reply, size_t reply_len);
-
-/*
- * Makes a record of its whole numbers.
- *
- * The list has them in the record's order, unfolded: M, Q, N, C, D; then for each vector
- *
- *     R         by rows: the diagonal entry, then real and imaginary part of each entry right of it
- *     y         row 1 first: real and imaginary part of each row
- *     priors    M x Q, in label order: stream 1 first, each stream's first bit first
- *
- * These are 5 + N x (M x M + 2 x M + M x Q) numbers.
- *
- * Returns how many bytes it wrote, which are the record, from `record`'s first byte on, and alters none behind them; or minus the refusal's
- * number, and alters none. The list is checked number by number, in its order, and the first check that fails decides:
- *
- *     2               the list ends before the next number that is called for
- *     4 to 12, 15     this number is outside its range
- *     13              the list goes on after the last number that is called for
- *     14              after all these: the record is longer than `record_len`. GECKONEEDLE_RECORD_MAX bytes are enough for any
- *
- * So where a number is outside its range, the numbers before it, taken alone, are refused by 2, and with it, whatever follows, by its refusal:
- * hosts/record.c finds the place of a refusal by this.
- *
- * What geckoneedle_read gives of the record is this very list. Nothing is kept between calls, and threads need no lock, as above. Stack: under
- * 1 KiB.
+ * Makes the record of a block from its whole numbers, as follows, and returns its length in bytes.
+ * Refusals 2, 4 to 13 and 15; then 14 where the record is longer than record_len.
+ *     M, Q, N  streams, bits a symbol, vectors
+ *     C, D     the clip, and each vector's share of nodes: the block's vectors may walk N x D nodes
+ *              in all, each as many as those before it left, and M are kept back for each after it
+ * then for each vector, where y = R s + noise, the M symbols s on odd whole amplitudes (Q = 4:
+ * -3, -1, 1, 3 on both axes; Q = 1: -1, 1) and mapped as IEEE 802.11 says, without its factor:
+ *     R        upper triangular, by rows: the diagonal entry, which is real, then real and
+ *              imaginary part of each entry right of it
+ *     y        real and imaginary part of each row
+ *     priors   M x Q, stream 1 first: log (P(bit is 0) / P(bit is 1)), times the noise variance
+ * These are 5 + N x (M x M + 2 x M + M x Q) numbers. In the record 43 42 52 31 stands before them;
+ * they are coded as in the reply, and folded where they may be negative.
  */
 int64_t geckoneedle_write(const int32_t *numbers, size_t count, uint8_t *record, size_t record_len);
 
-/*
- * Takes a record apart into its whole numbers, in a list as geckoneedle_write takes it.
- *
- * Returns how many numbers it wrote, from `numbers`' first place on, and alters no place behind them; or minus the refusal's number, and alters
- * none: 1 to 13 and 15 just where geckoneedle_detect has them, and after these 14 where the record has more numbers than the list has places,
- * `count`. GECKONEEDLE_NUMBERS_MAX places are enough for any record.
- *
- * What geckoneedle_write makes of the numbers is this very record, byte for byte. Nothing is kept between calls, and threads need no lock, as
- * above. Stack: about 13 KiB.
- */
+/* The way back: the very numbers that make this record. 1 to 13, 15; 14: count is too small. */
 int64_t geckoneedle_read(const uint8_t *record, size_t record_len, int32_t *numbers, size_t count);
+
+/*
+ * Detects one block: takes its record, writes the reply. Refusals 1 to 13 and 15; then 14 where
+ * reply_len is below GECKONEEDLE_REPLY_ROOM(M, Q, N), even if the reply itself would be shorter.
+ *
+ * The reply: 43 42 53 31; M, Q, N; then for each vector
+ *     mark     0: the search was complete; 1: it was stopped, as no nodes were left to it
+ *     nodes    how many it walked, at least M
+ *     label    the best label's M x Q bits as one number, stream 1 first, its first bit highest
+ *     values   M x Q soft values, scaled as the priors are and without them (extrinsic), clipped to
+ *              -C .. C; positive says 0. Each is folded: n as 2n if n >= 0, else -2n - 1
+ * Numbers are groups of seven bits, low ones first, the high bit set on all groups but the last.
+ * A stopped vector reports over the labels that it reached: a bit for which all of them agree gets
+ * +C or -C, and deserves less trust than the value says.
+ */
+int64_t geckoneedle_detect(const uint8_t *record, size_t record_len,
+                           uint8_t *reply, size_t reply_len);
 
 #ifdef __cplusplus
 }
