@@ -1,13 +1,14 @@
 //! What is printed of a record: document 01's listing, and the C host's lines. Answers are the plain detector's.
 
-use crate::block::{Block, Vector};
-use crate::plain::{answers, Answer};
-use crate::record::{read, Refusal};
+use crate::detectors::plain::answers;
+use crate::format::block::{is_against, Block, Vector};
+use crate::format::record::{Refusal, MOST_BYTES};
+use crate::format::reply::Answer;
 
 /// Document 01's listing of a record.
 pub fn listing(record: &[u8]) -> String {
-    let block = match read(record) {
-        Ok(numbers) => Block::of(&numbers),
+    let block = match Block::read(record) {
+        Ok(block) => block,
         Err(refusal) => return format!("refused {refusal}\n"),
     };
     let Block { streams, bits, clip, share, vectors } = &block;
@@ -21,14 +22,13 @@ pub fn listing(record: &[u8]) -> String {
     lines.join("\n") + "\n"
 }
 
-/// What hosts/detect.c prints of a record file. Where that has more bytes than any record it
-/// complains, and prints nothing.
+/// What hosts/detect.c prints of a record file. Where that has more bytes than any record it complains, and prints nothing.
 pub fn host_lines(path: &str, record: &[u8]) -> String {
-    if record.len() > 8_207 {
+    if record.len() > MOST_BYTES {
         return String::new();
     }
-    let block = match read(record) {
-        Ok(numbers) => Block::of(&numbers),
+    let block = match Block::read(record) {
+        Ok(block) => block,
         Err(refusal) => return format!("{path}: refused by {refusal}: {}\n", reason(refusal)),
     };
     let (vectors, streams, bits) = (block.vectors.len(), block.streams, block.bits);
@@ -55,11 +55,10 @@ fn mark(answer: &Answer) -> &'static str {
     }
 }
 
-/// How many label bits go against the sign of their prior; a prior of 0 has none.
+/// How many label bits go against the sign of their prior.
 fn against_priors(vector: &Vector, label: usize) -> usize {
-    let count = vector.priors.len();
-    let is_one = |bit: usize| label >> (count - 1 - bit) & 1 == 1;
-    (0..count).filter(|&bit| if is_one(bit) { vector.priors[bit] > 0 } else { vector.priors[bit] < 0 }).count()
+    let last_first = vector.priors.iter().rev().enumerate();
+    last_first.filter(|&(shift, &prior)| is_against(prior, label >> shift & 1 == 1)).count()
 }
 
 fn values(answer: &Answer) -> String {
@@ -99,12 +98,12 @@ pub fn reason(refusal: Refusal) -> &'static str {
 #[cfg(test)]
 mod tests {
     use super::*;
-    use crate::samples::{example, EXAMPLE_LISTING};
+    use crate::inputs::readings::{LISTING, LISTING_RECORD};
 
     #[test]
     fn the_listing_of_document_01() {
-        assert_eq!(listing(&example()), EXAMPLE_LISTING);
-        assert_eq!(listing(&example()[..8]), "refused 2\n");
+        assert_eq!(listing(&LISTING_RECORD), LISTING);
+        assert_eq!(listing(&LISTING_RECORD[..8]), "refused 2\n");
     }
 
     /// Priors -1, 0, 2, 3 for the label 0110: the first and the third bit go against them.

@@ -1,8 +1,8 @@
 //! IEEE 802.11's encoding tables against the constellation of both detectors, and points sent by these tables through both.
 
-use reference::block::Complex;
-use reference::ieee80211::{mappings, number, receptions, AXES};
-use reference::{fast, plain};
+use reference::detectors::{fast, plain};
+use reference::format::block::Complex;
+use reference::inputs::ieee80211::{mappings, number, receptions, AXES};
 
 /// Adjacent amplitudes of an axis are two apart and differ in just one bit; the least is minus the greatest.
 #[test]

@@ -1,16 +1,13 @@
 //! The plain detector against all labels: demand 2 for complete vectors, and demand 3's counts.
 
-use reference::chance::Chance;
-use reference::channel::{any_block, Plan, Sizes};
-use reference::record::read;
-use reference::{block::Block, exhaustive, plain, trials};
+use reference::detectors::{exhaustive, plain};
+use reference::format::block::Block;
+use reference::inputs::chance::Chance;
+use reference::inputs::channel::{any_block, Plan, Sizes};
+use reference::inputs::trials::{self, SMALL_TREES};
 
-/// M and Q with at most twelve label bits.
-const SMALL: [(usize, usize); 12] =
-    [(1, 1), (2, 1), (3, 1), (4, 1), (1, 2), (2, 2), (3, 2), (4, 2), (1, 4), (2, 4), (1, 6), (1, 8)];
+/// M and Q with twelve and with sixteen label bits.
 const TWELVE_BITS: [(usize, usize); 2] = [(3, 4), (2, 6)];
-
-/// M and Q with sixteen label bits.
 const SIXTEEN_BITS: [(usize, usize); 2] = [(2, 8), (4, 4)];
 
 /// Compares the complete vectors, and gives how many there are; checks every count and mark.
@@ -30,31 +27,61 @@ fn complete(block: &Block) -> usize {
     complete
 }
 
-fn compare_any(seed: u64, turns: usize, shapes: &[(usize, usize)], share: i64) -> usize {
+/// The same of blocks with any numbers.
+fn complete_of_any(seed: u64, turns: usize, shapes: &[(usize, usize)], share: i64) -> usize {
     let mut chance = Chance(seed);
-    let mut sum = 0;
-    for turn in 0..turns {
+    let block = |turn: usize| {
         let (streams, bits) = shapes[turn % shapes.len()];
         let sizes = chance.one_of(&[Sizes::TIES, Sizes::PRIORS, Sizes::FULL]);
         let vectors = chance.between(1, 3) as usize;
-        sum += complete(&any_block(&mut chance, streams, bits, vectors, share, sizes));
-    }
-    sum
+        any_block(&mut chance, streams, bits, vectors, share, sizes)
+    };
+    (0..turns).map(block).map(|block| complete(&block)).sum()
+}
+
+/// The same of receptions, of one vector each.
+fn complete_of_channels(seed: u64, turns: usize, shape: impl Fn(usize) -> (usize, usize)) -> usize {
+    let mut chance = Chance(seed);
+    let block = |turn: usize| {
+        let (streams, bits) = shape(turn);
+        let clip = chance.one_of(&[0.0, 1.0, 8.0]);
+        let noise = chance.one_of(&[0.3, 0.9, 2.0]);
+        let prior = chance.one_of(&[0.0, 2.0]);
+        Plan { streams, bits, vectors: 1, clip, share: 2_000, noise, prior }.block(&mut chance)
+    };
+    (0..turns).map(block).map(|block| complete(&block)).sum()
 }
 
 #[test]
 fn small_blocks() {
-    assert!(compare_any(11, 6_000, &SMALL, 17_043_520) > 6_000);
+    assert!(complete_of_any(11, 6_000, &SMALL_TREES, 17_043_520) > 6_000);
 }
 
 #[test]
 fn small_blocks_of_which_some_vectors_stop() {
-    assert!(compare_any(12, 4_000, &SMALL, 7) > 1_000);
+    assert!(complete_of_any(12, 4_000, &SMALL_TREES, 7) > 1_000);
 }
 
 #[test]
 fn twelve_label_bits() {
-    assert!(compare_any(13, 60, &TWELVE_BITS, 400) > 20);
+    assert!(complete_of_any(13, 60, &TWELVE_BITS, 400) > 20);
+}
+
+#[test]
+fn sixteen_label_bits() {
+    assert!(complete_of_any(15, 40, &SIXTEEN_BITS, 400) > 10);
+}
+
+#[test]
+fn channels() {
+    let shape =
+        |turn: usize| if turn.is_multiple_of(5) { TWELVE_BITS[turn / 5 % 2] } else { SMALL_TREES[turn % SMALL_TREES.len()] };
+    assert!(complete_of_channels(14, 300, shape) > 250);
+}
+
+#[test]
+fn channels_of_256_points() {
+    assert!(complete_of_channels(16, 60, |turn| (1 + turn % 2, 8)) > 50);
 }
 
 /// With every number at an end of its range: no label's metric is above the sum of the axes' largest squares and all priors, which is
@@ -62,45 +89,12 @@ fn twelve_label_bits() {
 #[test]
 fn metrics_have_a_bound() {
     let mut chance = Chance(17);
-    let ends = trials::ends().map(|trial| Block::of(&read(&trial.record).expect("accepted")));
-    for block in ends.filter(|block| block.streams * block.bits == 24) {
+    let ends = trials::ends().map(|trial| Block::read(&trial.record).expect("accepted"));
+    for block in ends.filter(|block| block.label_bits() == 24) {
         let bound = if block.bits == 6 { 292_155_269_592 } else { 313_981_861_776 };
         assert!(bound < 1 << 39);
         for label in (0..1_000).map(|_| chance.between(0, (1 << 24) - 1) as usize) {
             assert!(exhaustive::metric(&block, &block.vectors[0], label) <= bound, "{block:?}, label {label}");
         }
     }
-}
-
-#[test]
-fn sixteen_label_bits() {
-    assert!(compare_any(15, 40, &SIXTEEN_BITS, 400) > 10);
-}
-
-#[test]
-fn channels_of_256_points() {
-    let mut chance = Chance(16);
-    let mut sum = 0;
-    for turn in 0..60 {
-        let streams = 1 + turn % 2;
-        let clip = chance.one_of(&[0.0, 1.0, 8.0]);
-        let noise = chance.one_of(&[0.3, 0.9, 2.0]);
-        let prior = chance.one_of(&[0.0, 2.0]);
-        sum += complete(&Plan { streams, bits: 8, vectors: 1, clip, share: 2_000, noise, prior }.block(&mut chance));
-    }
-    assert!(sum > 50);
-}
-
-#[test]
-fn channels() {
-    let mut chance = Chance(14);
-    let mut sum = 0;
-    for turn in 0..300 {
-        let (streams, bits) = if turn % 5 == 0 { TWELVE_BITS[turn / 5 % 2] } else { SMALL[turn % SMALL.len()] };
-        let clip = chance.one_of(&[0.0, 1.0, 8.0]);
-        let noise = chance.one_of(&[0.3, 0.9, 2.0]);
-        let prior = chance.one_of(&[0.0, 2.0]);
-        sum += complete(&Plan { streams, bits, vectors: 1, clip, share: 2_000, noise, prior }.block(&mut chance));
-    }
-    assert!(sum > 250);
 }

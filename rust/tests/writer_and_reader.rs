@@ -1,26 +1,28 @@
-//! The Rust writer and the Rust record reader held to each other, as document 02's Point 2 has it: the reader on a written record
-//! returns the very numbers, each accepted record is the one that the writer makes from what was read, and both refuse by the same
-//! number.
+//! The Rust writer and the Rust record reader held to each other, as document 02's Point 2 has it: there and back, and back and there,
+//! and both refuse by the same number.
 
-use reference::record::{places, Place, OPENING};
-use reference::{lists, trials, writer};
+use reference::comparison::{compare, outcome, Call, Lent};
+use reference::format::encoding::{places, Place, OPENING};
+use reference::format::record::{MOST_BYTES, MOST_NUMBERS};
+use reference::format::writer;
+use reference::inputs::{lists, trials};
 
-/// The bytes of a list's record, or minus the refusal number. No record is longer.
-fn write(numbers: &[i32]) -> Result<Vec<u8>, i64> {
-    let mut record = [0; 8_207];
-    match writer::write(numbers, &mut record) {
-        refused @ ..0 => Err(refused),
-        written => Ok(record[..written as usize].to_vec()),
+/// What a call writes, or minus the refusal number, with as much lent to it as it can ask for.
+fn written<Given, Entry: Lent>(call: Call<Given, Entry>, given: &[Given], most: usize) -> Result<Vec<Entry>, i64> {
+    match outcome(call, given, most) {
+        (refused @ ..0, _) => Err(refused),
+        (count, lent) => Ok(lent[..count as usize].to_vec()),
     }
 }
 
-/// A record's numbers, or minus the refusal number. No record has more: 64 vectors of four streams of six bits.
+/// The bytes of a list's record.
+fn write(numbers: &[i32]) -> Result<Vec<u8>, i64> {
+    written(writer::write, numbers, MOST_BYTES)
+}
+
+/// A record's numbers.
 fn read(record: &[u8]) -> Result<Vec<i32>, i64> {
-    let mut numbers = [0; 3_077];
-    match writer::read(record, &mut numbers) {
-        refused @ ..0 => Err(refused),
-        written => Ok(numbers[..written as usize].to_vec()),
-    }
+    written(writer::read, record, MOST_NUMBERS)
 }
 
 /// The record of a list of which nothing is checked, if each number has a form of at most four groups. Where M, Q or N is out of
@@ -31,9 +33,8 @@ fn unchecked(numbers: &[i32]) -> Option<Vec<u8>> {
     let mut record = OPENING.to_vec();
     for (at, &number) in numbers.iter().enumerate() {
         let place = places.get(at).copied().unwrap_or(Place::Prior);
-        let has_sign = matches!(place, Place::Right | Place::Received | Place::Prior);
-        let has_form = if has_sign { (-134_217_728..134_217_728).contains(&number) } else { (0..268_435_456).contains(&number) };
-        if !has_form {
+        let forms = if place.is_folded() { -134_217_728..134_217_728 } else { 0..268_435_456 };
+        if !forms.contains(&number) {
             return None;
         }
         record.extend(place.bytes(number.into()));
@@ -43,26 +44,20 @@ fn unchecked(numbers: &[i32]) -> Option<Vec<u8>> {
 
 #[test]
 fn a_written_record_is_read_back() {
-    let mut accepted = 0;
-    for list in lists::all() {
-        if let Ok(record) = write(&list.numbers) {
-            assert_eq!(read(&record), Ok(list.numbers));
-            accepted += 1;
-        }
-    }
-    assert_eq!(accepted, 17_235);
+    compare(lists::groups(), |list| {
+        let record = write(&list.numbers);
+        assert!(record.iter().all(|record| read(record).as_ref() == Ok(&list.numbers)), "{:?}", list.numbers);
+        record.is_ok()
+    });
 }
 
 #[test]
 fn an_accepted_record_is_written_again() {
-    let mut accepted = 0;
-    for trial in trials::all().chain(trials::longest_walks()) {
-        if let Ok(numbers) = read(&trial.record) {
-            assert_eq!(write(&numbers), Ok(trial.record));
-            accepted += 1;
-        }
-    }
-    assert_eq!(accepted, 39_596);
+    compare(trials::groups(), |trial| {
+        let numbers = read(&trial.record);
+        assert!(numbers.iter().all(|numbers| write(numbers).as_ref() == Ok(&trial.record)), "{:02X?}", trial.record);
+        numbers.is_ok()
+    });
 }
 
 /// A list is refused as the record is that has its numbers, checked or not, in their shortest forms.

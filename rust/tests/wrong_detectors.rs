@@ -1,104 +1,84 @@
-//! A test of the tests: a third detector that keeps 000's list (the best label, its metric, an extrinsic metric for each bit) in place
-//! of the leaves, and that can be given one slip at a time: what document 01 says that the pruning papers invite, the frauds of its
-//! Agreement, what the 256 points of document 02 invite, and the likely slips beside them. With no slip it agrees on every record of
-//! `trials`; with any slip some record tells.
+//! A test of the tests: a third detector, which can be given one slip at a time. With no slip it agrees on every record of `trials`;
+//! with any slip some record tells.
+//!
+//! It keeps 000's list (the best label, its metric, an extrinsic metric for each bit) in place of the leaves. The slips are what
+//! document 01 says that the pruning papers invite, the frauds of its Agreement, what the 256 points of document 02 invite, and the
+//! likely ones beside them.
 
-use reference::block::{Block, Complex, Vector};
-use reference::eq_31;
-use reference::plain::{self, Answer, Leaf};
-use reference::record::{check_width, read, read_by, Numbers, Refusal};
-use reference::trials;
+#[macro_use]
+mod slips;
+
+use reference::comparison;
+use reference::detectors::plain::{self, Leaf};
+use reference::format::block::{Block, Complex, Vector};
+use reference::format::encoding::Numbers;
+use reference::format::record::{check_width, read, read_by, Refusal};
+use reference::format::reply::{self, Answer};
+use reference::inputs::eq_31;
+use reference::inputs::trials::{self, Trial};
+use slips::is_seen_often;
 
 /// Above every metric and limit.
 const INFINITE: i64 = 1 << 45;
 
-#[derive(Clone, Copy, Debug, PartialEq, Eq)]
-enum Slip {
-    Clean,
-    // What the pruning papers invite.
-    /// 000's eq. 31: extrinsic metrics clipped from below too, at each new best leaf.
-    ClipFromBelow,
-    /// B left out of the test, as 001 may.
-    BestLeftOut,
-    /// All later siblings dropped after one is cut.
-    SiblingsDropped,
-    PriorAfterClip,
-    PriorTwice,
-    /// A stopped vector's values are clipped as any other's, and its mark says complete.
-    MarkHidden,
-    /// 001's sign.
-    SignTurned,
-    // The Agreement's frauds.
-    /// Vector 1 is searched, the others are stopped at M nodes.
-    OthersAtM,
-    /// Stopped with one node of the allowance left.
-    StoppedEarly,
-    /// Stopped where the walk ends exactly with the allowance.
-    StoppedWhenFull,
-    /// Counts made from N and D.
-    CountIsShare,
-    PlusClipForEveryBit,
-    /// A length over an untouched buffer.
-    BufferUntouched,
-    RefusesAll,
-    // Others.
-    /// What a vector leaves is not passed on.
-    LeftoversLost,
-    /// M nodes are not kept back for each later vector.
-    NothingReserved,
-    LargerLabelOnTie,
-    LargerSymbolOnTie,
-    /// At the limit is as good as below it.
-    AtLimitPasses,
-    /// Limits of bits that are not yet chosen are not looked at.
-    UnchosenForgotten,
-    /// The prior is left out of the limit.
-    LimitWithoutPrior,
-    // The 256 points.
-    /// Two entries of the table of 256 points are exchanged.
-    PointsExchanged(usize, usize),
-    /// 15 is checked before 5: four streams with Q = 9 are refused by 15.
-    FourStreamsFirst,
-    /// 15 is checked when the record has been read.
-    FourStreamsLast,
-    /// Four streams of eight bits are no fault at all.
-    FourStreamsAccepted,
-    /// They are refused as before, by 5.
-    FourStreamsByFive,
-    /// Q = 8 is refused as before, whatever M is.
-    EightRefused,
+slips! {
+    searching_slips {
+        // What the pruning papers invite.
+        /// 000's eq. 31: extrinsic metrics clipped from below too, at each new best leaf.
+        ClipFromBelow,
+        /// B left out of the test, as 001 may.
+        BestLeftOut,
+        /// All later siblings dropped after one is cut.
+        SiblingsDropped,
+        PriorAfterClip,
+        PriorTwice,
+        /// A stopped vector's values are clipped as any other's, and its mark says complete.
+        MarkHidden,
+        /// 001's sign.
+        SignTurned,
+        // The Agreement's frauds.
+        /// Vector 1 is searched, the others are stopped at M nodes.
+        OthersAtM,
+        /// Stopped with one node of the allowance left.
+        StoppedEarly,
+        /// Stopped where the walk ends exactly with the allowance.
+        StoppedWhenFull,
+        /// Counts made from N and D.
+        CountIsShare,
+        PlusClipForEveryBit,
+        /// A length over an untouched buffer.
+        BufferUntouched,
+        RefusesAll,
+        // Others.
+        /// What a vector leaves is not passed on.
+        LeftoversLost,
+        /// M nodes are not kept back for each later vector.
+        NothingReserved,
+        LargerLabelOnTie,
+        LargerSymbolOnTie,
+        /// At the limit is as good as below it.
+        AtLimitPasses,
+        /// Limits of bits that are not yet chosen are not looked at.
+        UnchosenForgotten,
+        /// The prior is left out of the limit.
+        LimitWithoutPrior,
+        /// Two entries of the table of 256 points are exchanged: here -1 - i and -1 + i.
+        PointsExchanged(usize, usize) in [PointsExchanged(0b0100_0100, 0b0100_1100)],
+    }
+    /// Slips of the reader alone, as the 256 points invite them.
+    reading_slips {
+        /// 15 is checked before 5: four streams with Q = 9 are refused by 15.
+        FourStreamsFirst,
+        /// 15 is checked when the record has been read.
+        FourStreamsLast,
+        /// Four streams of eight bits are no fault at all.
+        FourStreamsAccepted,
+        /// They are refused as before, by 5.
+        FourStreamsByFive,
+        /// Q = 8 is refused as before, whatever M is.
+        EightRefused,
+    }
 }
-
-use Slip::*;
-
-const SLIPS: [Slip; 22] = [
-    ClipFromBelow,
-    BestLeftOut,
-    SiblingsDropped,
-    PriorAfterClip,
-    PriorTwice,
-    MarkHidden,
-    SignTurned,
-    OthersAtM,
-    StoppedEarly,
-    StoppedWhenFull,
-    CountIsShare,
-    PlusClipForEveryBit,
-    BufferUntouched,
-    RefusesAll,
-    LeftoversLost,
-    NothingReserved,
-    LargerLabelOnTie,
-    LargerSymbolOnTie,
-    AtLimitPasses,
-    UnchosenForgotten,
-    LimitWithoutPrior,
-    // -1 - i and -1 + i.
-    PointsExchanged(0b0100_0100, 0b0100_1100),
-];
-
-/// Slips of the reader alone.
-const READING_SLIPS: [Slip; 5] = [FourStreamsFirst, FourStreamsLast, FourStreamsAccepted, FourStreamsByFive, EightRefused];
 
 /// The reader, with what a slip makes of its check of Q.
 fn read_with(slip: Slip, record: &[u8]) -> Result<Numbers, Refusal> {
@@ -137,10 +117,10 @@ fn detect(slip: Slip, record: &[u8], reply: &mut [u8]) -> i64 {
         Ok(numbers) => Block::of(&numbers),
         Err(refusal) => return -i64::from(refusal),
     };
-    if reply.len() < block.buffer_bound() {
+    if reply.len() < block.room() {
         return -14;
     }
-    let bytes = plain::reply_bytes(&block, &answers(slip, &block));
+    let bytes = reply::encode(&block, &answers(slip, &block));
     if slip != BufferUntouched {
         reply[..bytes.len()].copy_from_slice(&bytes);
     }
@@ -170,7 +150,7 @@ fn answers(slip: Slip, block: &Block) -> Vec<Answer> {
 
 fn answer(slip: Slip, block: &Block, vector: &Vector, allowance: i64) -> Answer {
     let best = Leaf { label: 0, metric: INFINITE };
-    let extrinsic = vec![INFINITE; block.streams * block.bits];
+    let extrinsic = vec![INFINITE; block.label_bits()];
     let mut walk = Walk { slip, block, vector, allowance, nodes: 0, stopped: false, best, extrinsic };
     walk.below(&[], 0);
     let stopped = match slip {
@@ -178,7 +158,7 @@ fn answer(slip: Slip, block: &Block, vector: &Vector, allowance: i64) -> Answer 
         StoppedWhenFull => walk.stopped || walk.nodes == allowance,
         _ => walk.stopped,
     };
-    let values = (0..block.streams * block.bits).map(|bit| walk.soft_value(bit)).collect();
+    let values = (0..block.label_bits()).map(|bit| walk.soft_value(bit)).collect();
     Answer { stopped, nodes: walk.nodes, label: walk.best.label, values }
 }
 
@@ -198,7 +178,7 @@ struct Walk<'a> {
 impl Walk<'_> {
     fn below(&mut self, symbols: &[usize], partial: i64) {
         if symbols.len() == self.block.streams {
-            self.take_leaf(Leaf { label: self.label(symbols), metric: partial });
+            self.take_leaf(Leaf { label: self.block.label(symbols), metric: partial });
             return;
         }
         for (metric, child) in self.children(symbols, partial) {
@@ -251,10 +231,10 @@ impl Walk<'_> {
             return true;
         }
         let first_chosen = (self.block.streams - child.len()) * self.block.bits;
-        let path = self.label(child);
+        let path = self.block.label(child);
         let counts = |bit: usize| match bit < first_chosen {
             true => self.slip != UnchosenForgotten,
-            false => (path ^ self.best.label) & self.mask(bit) != 0,
+            false => (path ^ self.best.label) & self.block.mask(bit) != 0,
         };
         let is_below = |bit: usize| match self.slip {
             AtLimitPasses => metric <= self.limit(bit),
@@ -275,7 +255,7 @@ impl Walk<'_> {
         let is_smaller = (leaf.label < before.label) == (self.slip != LargerLabelOnTie);
         let is_best = leaf.metric < before.metric || (leaf.metric == before.metric && is_smaller);
         for bit in 0..self.extrinsic.len() {
-            let differs = (leaf.label ^ before.label) & self.mask(bit) != 0;
+            let differs = (leaf.label ^ before.label) & self.block.mask(bit) != 0;
             if is_best && differs && before.metric < INFINITE {
                 self.extrinsic[bit] = before.metric - self.prior_for(leaf.label, bit);
             } else if !is_best && differs {
@@ -295,7 +275,7 @@ impl Walk<'_> {
 
     fn soft_value(&self, bit: usize) -> i64 {
         let (clip, prior) = (self.block.clip, self.vector.priors[bit]);
-        let is_one = self.best.label & self.mask(bit) != 0;
+        let is_one = self.best.label & self.block.mask(bit) != 0;
         let sign = if is_one { -1 } else { 1 };
         let value = sign * (self.extrinsic[bit] - self.best.metric);
         match self.slip {
@@ -310,28 +290,17 @@ impl Walk<'_> {
     /// A bit's prior, its sign turned where the label's bit is 1.
     fn prior_for(&self, label: usize, bit: usize) -> i64 {
         let prior = self.vector.priors[bit];
-        if label & self.mask(bit) != 0 {
+        if label & self.block.mask(bit) != 0 {
             -prior
         } else {
             prior
         }
     }
-
-    fn mask(&self, bit: usize) -> usize {
-        1 << (self.extrinsic.len() - 1 - bit)
-    }
-
-    fn label(&self, symbols: &[usize]) -> usize {
-        symbols.iter().fold(0, |label, symbol| (label << self.block.bits) + symbol)
-    }
 }
 
 /// Do the plain detector and this one say the same?
-fn agree(slip: Slip, trial: &trials::Trial) -> bool {
-    let before = vec![0xA5; trial.room];
-    let (mut expected, mut found) = (before.clone(), before);
-    let returned = plain::detect(&trial.record, &mut expected);
-    detect(slip, &trial.record, &mut found) == returned && found == expected
+fn agree(slip: Slip, trial: &Trial) -> bool {
+    comparison::agree(plain::detect, |record, reply| detect(slip, record, reply), &trial.record, [trial.room])
 }
 
 #[test]
@@ -343,7 +312,8 @@ fn with_no_slip_every_record_agrees() {
 
 #[test]
 fn every_slip_is_seen() {
-    for slip in SLIPS.into_iter().chain(READING_SLIPS) {
+    assert_eq!((searching_slips().len(), reading_slips().len()), (22, 5));
+    for slip in searching_slips().into_iter().chain(reading_slips()) {
         let seen = trials::all().filter(|trial| trial.suits_plain).any(|trial| !agree(slip, &trial));
         assert!(seen, "no record tells {slip:?}");
     }
@@ -352,20 +322,19 @@ fn every_slip_is_seen() {
 /// The records of chance alone see each of them too, and not by one lucky record.
 #[test]
 fn every_slip_is_seen_often() {
-    for slip in SLIPS {
-        let by_chance = || trials::priors_beyond_the_clip().chain(trials::ties());
-        let seen = by_chance().filter(|trial| !agree(slip, trial)).take(5).count();
-        assert_eq!(seen, 5, "{slip:?}");
+    for slip in searching_slips() {
+        let by_chance = trials::priors_beyond_the_clip().chain(trials::ties());
+        assert!(is_seen_often(by_chance, |trial| !agree(slip, trial)), "{slip:?}");
     }
 }
 
 /// The record reader's own test, which is stored and run by the proved reader, sees the reader's slips, and so do other records.
 #[test]
 fn every_slip_of_the_reader_is_seen_often() {
-    for slip in READING_SLIPS {
-        let is_seen = |trial: &trials::Trial| read_with(slip, &trial.record) != read(&trial.record);
-        assert!(trials::reader_cases().filter(is_seen).count() >= 5, "{slip:?}");
-        assert!(trials::widths().filter(is_seen).count() >= 5, "{slip:?}");
+    for slip in reading_slips() {
+        let tells = |trial: &Trial| read_with(slip, &trial.record) != read(&trial.record);
+        assert!(is_seen_often(trials::reader_cases(), tells), "{slip:?}");
+        assert!(is_seen_often(trials::widths(), tells), "{slip:?}");
     }
 }
 

@@ -1,68 +1,80 @@
-//! A test of the tests: a third writer of block records, which gathers all faults of a list and lets the one that is met first
-//! decide, and which can be given one slip at a time; and the reader that fills a lent list, likewise. With no slip they agree with
-//! `writer` on every list of `lists` and on every record that is tried; with any slip some of these tell.
+//! A test of the tests: a third writer of block records, and a reader that fills a lent list, which can be given one slip at a time.
+//! With no slip they agree with `writer` on every list of `lists` and on every record that is tried; with any slip some of these tell.
+//!
+//! The writer gathers all faults of a list and lets the one that is met first decide.
 
-use reference::cases::{range, row};
-use reference::lists::{self, List};
-use reference::record::{self, check_width, fold, places, plain, read_so_far, unfold, Place, Refusal, OPENING};
-use reference::trials::{self, Trial};
-use reference::writer;
+#[macro_use]
+mod slips;
 
-#[derive(Clone, Copy, Debug, PartialEq, Eq)]
-enum Slip {
-    Clean,
-    // Ranges.
-    /// The lower and the upper end of a range are moved by so much.
-    Range(Place, i64, i64),
-    /// D may be 1 or more, whatever M is.
-    ShareFromOne,
-    /// This M and Q are answered otherwise: accepted, or refused by 5 or 15.
-    Pair(i64, i64, Option<Refusal>),
-    /// Only so many bits of a number are looked at, the highest of them as its sign.
-    Narrow(Place, u32),
-    /// Numbers of the vectors behind the first are not ranged.
-    FirstVectorAlone,
-    /// The last prior is not ranged.
-    LastLeftOut,
-    // The order of checks.
-    /// This refusal is asked for before all others.
-    First(Refusal),
-    /// This one after all others: 13 then comes after 14.
-    Last(Refusal),
-    /// This one never.
-    Never(Refusal),
-    /// 14 is given at the first number that no longer fits.
-    RoomAsItGoes,
-    // Forms.
-    /// A number that is to be folded is plain, or the other way round.
-    OtherForm(Place),
-    /// No group has the high bit.
-    NoHighBit,
-    GreatestGroupFirst,
-    /// A group of 0 more than is needed.
-    OverLong,
-    /// The list's numbers are taken for those of another order.
-    Taken(Order),
-    /// They are put into the record in another order.
-    Put(Order),
-    // Lent memory.
-    /// It is asked to have so many entries more than are to be written.
-    Room(i64),
-    /// It is asked to have four bytes for each number, and four.
-    RoomForLongest,
-    /// What is returned is so much more.
-    Returned(i64),
-    /// How many entries were read is returned, not how many were written.
-    OtherCountReturned,
-    /// A count over untouched memory.
-    Untouched,
-    RestCleared,
-    /// The opening is written before anything is asked.
-    OpeningAtOnce,
-    /// Each number is written as soon as it is ranged.
-    WrittenAsItGoes,
-    /// One entry is written before the last check, that of lent memory.
-    EntryBeforeLast,
+use reference::comparison::agree;
+use reference::format::encoding::{fold, places, plain, unfold, Place, OPENING};
+use reference::format::record::{self, check_width, read_so_far, Refusal};
+use reference::format::writer;
+use reference::inputs::lengths;
+use reference::inputs::lists::{self, List};
+use reference::inputs::numbers::{range, row};
+use reference::inputs::trials::{self, Trial};
+use slips::is_seen_often;
+
+slips! {
+    /// Slips of the writer alone, and the order of checks.
+    slips_of_the_writer {
+        // Ranges.
+        /// The lower and the upper end of a range are moved by so much.
+        Range(Place, i64, i64) in moved_ranges(),
+        /// D may be 1 or more, whatever M is.
+        ShareFromOne,
+        /// This M and Q are answered otherwise: accepted, or refused by 5 or 15.
+        Pair(i64, i64, Option<Refusal>) in (1..=4).flat_map(|streams| (-1..=10).flat_map(move |bits| other_answers(streams, bits))),
+        /// Only so many bits of a number are looked at, the highest of them as its sign.
+        Narrow(Place, u32) in Place::all().flat_map(|place| [8, 16, 28].map(|bits| Narrow(place, bits))),
+        /// Numbers of the vectors behind the first are not ranged.
+        FirstVectorAlone,
+        /// The last prior is not ranged.
+        LastLeftOut,
+        // The order of checks.
+        /// This refusal is asked for before all others.
+        First(Refusal) in [2, 5, 6, 7, 8, 9, 10, 11, 12, 13, 14].map(First),
+        /// This one after all others: 13 then comes after 14.
+        Last(Refusal) in [2, 7, 8, 9, 10, 11, 12, 13, 15].map(Last),
+        /// This one never.
+        Never(Refusal) in [2, 7, 8, 9, 10, 11, 12, 13, 14, 15].map(Never),
+        // Forms.
+        /// No group has the high bit.
+        NoHighBit,
+        GreatestGroupFirst,
+        /// A group of 0 more than is needed.
+        OverLong,
+        /// The list's numbers are taken for those of another order.
+        Taken(Order) in ORDERS.map(Taken),
+        /// They are put into the record in another order.
+        Put(Order) in ORDERS.map(Put),
+        // Lent memory.
+        /// It is asked to have four bytes for each number, and four.
+        RoomForLongest,
+        /// The opening is written before anything is asked.
+        OpeningAtOnce,
+    }
+    /// Slips of writer and reader, whether bytes or numbers are filled in.
+    slips_of_both {
+        /// A number that is to be folded is plain, or the other way round.
+        OtherForm(Place) in Place::all().map(OtherForm),
+        /// 14 is given at the first number that no longer fits.
+        RoomAsItGoes,
+        /// Lent memory is asked to have so many entries more than are to be written.
+        Room(i64) in [-1, 1].map(Room),
+        /// What is returned is so much more.
+        Returned(i64) in [-1, 1].map(Returned),
+        /// How many entries were read is returned, not how many were written.
+        OtherCountReturned,
+        /// A count over untouched memory.
+        Untouched,
+        RestCleared,
+        /// Each number is written as soon as it is ranged.
+        WrittenAsItGoes,
+        /// One entry is written before the last check, that of lent memory.
+        EntryBeforeLast,
+    }
 }
 
 /// Orders of a vector's numbers that are not the record's.
@@ -77,72 +89,28 @@ enum Order {
 }
 
 use Order::*;
-use Slip::*;
 
 const ORDERS: [Order; 3] = [PriorsBeforeReceived, DiagonalsFirst, ReceivedFirst];
 
-const PLACES: [Place; 9] = [
-    Place::Streams,
-    Place::Bits,
-    Place::Vectors,
-    Place::Clip,
-    Place::Share,
-    Place::Diagonal,
-    Place::Right,
-    Place::Received,
-    Place::Prior,
-];
-
-/// Slips with lent memory, be it filled with bytes or with numbers.
-const LENT: [Slip; 12] = [
-    First(14),
-    Last(13),
-    Never(14),
-    RoomAsItGoes,
-    Room(-1),
-    Room(1),
-    Returned(-1),
-    Returned(1),
-    OtherCountReturned,
-    Untouched,
-    RestCleared,
-    EntryBeforeLast,
-];
-
 /// All slips of the writer.
 fn writing_slips() -> Vec<Slip> {
-    let moved = |place: Place| [(-1, 0), (1, 0), (0, -1), (0, 1)].map(|(least, greatest)| Range(place, least, greatest));
-    let ranges = PLACES.into_iter().filter(|&place| place != Place::Bits).flat_map(moved);
-    let narrow = PLACES.into_iter().flat_map(|place| [8, 16, 28].map(|bits| Narrow(place, bits)));
-    let pairs = (1..=4).flat_map(|streams| (-1..=10).map(move |bits| (streams, bits))).flat_map(other_answers);
-    let first = [2].into_iter().chain(5..=13).map(First);
-    let last = [2].into_iter().chain(7..=12).chain([15]).map(Last);
-    let never = [2].into_iter().chain(7..=13).chain([15]).map(Never);
-    let orders = ORDERS.into_iter().flat_map(|order| [Taken(order), Put(order)]);
-    let others = [
-        ShareFromOne,
-        FirstVectorAlone,
-        LastLeftOut,
-        NoHighBit,
-        GreatestGroupFirst,
-        OverLong,
-        RoomForLongest,
-        OpeningAtOnce,
-        WrittenAsItGoes,
-    ];
-    let checks = ranges.chain(narrow).chain(pairs).chain(first).chain(last).chain(never);
-    checks.chain(PLACES.map(OtherForm)).chain(orders).chain(others).chain(LENT).collect()
-}
-
-/// What M and Q could be answered with, but for the right answer.
-fn other_answers((streams, bits): (i64, i64)) -> impl Iterator<Item = Slip> {
-    let right = check_width(streams, bits).err();
-    [None, Some(5), Some(15)].into_iter().filter(move |&answer| answer != right).map(move |answer| Pair(streams, bits, answer))
+    [slips_of_the_writer(), slips_of_both()].concat()
 }
 
 /// All slips of the reader that are not the detector's too; tests/wrong_detectors.rs has others.
 fn reading_slips() -> Vec<Slip> {
-    PLACES.map(OtherForm).into_iter().chain([WrittenAsItGoes]).chain(LENT).collect()
+    [vec![First(14), Last(13), Never(14)], slips_of_both()].concat()
+}
+
+fn moved_ranges() -> impl Iterator<Item = Slip> {
+    let moved = |place: Place| [(-1, 0), (1, 0), (0, -1), (0, 1)].map(|(least, greatest)| Range(place, least, greatest));
+    Place::all().filter(|&place| place != Place::Bits).flat_map(moved)
+}
+
+/// What M and Q could be answered with, but for the right answer.
+fn other_answers(streams: i64, bits: i64) -> impl Iterator<Item = Slip> {
+    let right = check_width(streams, bits).err();
+    [None, Some(5), Some(15)].into_iter().filter(move |&answer| answer != right).map(move |answer| Pair(streams, bits, answer))
 }
 
 // Lent memory.
@@ -325,7 +293,7 @@ fn part(slip: Slip, place: Place, number: i64) -> Vec<u8> {
 }
 
 fn is_folded(slip: Slip, place: Place) -> bool {
-    matches!(place, Place::Right | Place::Received | Place::Prior) != (slip == OtherForm(place))
+    place.is_folded() != (slip == OtherForm(place))
 }
 
 /// How many numbers a vector has.
@@ -373,22 +341,13 @@ fn read(slip: Slip, bytes: &[u8], numbers: &mut [i32]) -> i64 {
 
 /// Do `writer` and this writer say the same, with every buffer to try?
 fn agree_on_list(slip: Slip, list: &List) -> bool {
-    list.lengths().into_iter().all(|length| {
-        let before: Vec<u8> = (0..length).map(|at| (at * 37 + 11) as u8).collect();
-        let (mut expected, mut found) = (before.clone(), before);
-        let returned = writer::write(&list.numbers, &mut expected);
-        write(slip, &list.numbers, &mut found) == returned && found == expected
-    })
+    agree(writer::write, |numbers, record| write(slip, numbers, record), &list.numbers, list.lengths())
 }
 
-/// Do the two readers say the same, with every list to try? The lists hold no number of a record before.
+/// Do the two readers say the same, with every list to try?
 fn agree_on_record(slip: Slip, trial: &Trial) -> bool {
-    lists::lengths(read_so_far(&trial.record).len()).into_iter().all(|length| {
-        let before: Vec<i32> = (0..length as i32).map(|at| i32::MIN + at).collect();
-        let (mut expected, mut found) = (before.clone(), before);
-        let returned = writer::read(&trial.record, &mut expected);
-        read(slip, &trial.record, &mut found) == returned && found == expected
-    })
+    let lengths = lengths(read_so_far(&trial.record).len());
+    agree(writer::read, |record, numbers| read(slip, record, numbers), &trial.record, lengths)
 }
 
 /// Records of every M and Q that are accepted, and records that are refused in every way.
@@ -412,18 +371,16 @@ fn with_no_slip_every_record_agrees() {
 
 #[test]
 fn every_slip_of_the_writer_is_seen_often() {
-    let slips = writing_slips();
-    assert_eq!(slips.len(), 218);
-    for slip in slips {
-        let seen = lists::all().filter(|list| !agree_on_list(slip, list)).take(5).count();
-        assert_eq!(seen, 5, "{slip:?}");
+    assert_eq!(writing_slips().len(), 218);
+    for slip in writing_slips() {
+        assert!(is_seen_often(lists::all(), |list| !agree_on_list(slip, list)), "{slip:?}");
     }
 }
 
 #[test]
 fn every_slip_of_the_reader_is_seen_often() {
+    assert_eq!(reading_slips().len(), 22);
     for slip in reading_slips() {
-        let seen = records().filter(|trial| !agree_on_record(slip, trial)).take(5).count();
-        assert_eq!(seen, 5, "{slip:?}");
+        assert!(is_seen_often(records(), |trial| !agree_on_record(slip, trial)), "{slip:?}");
     }
 }

@@ -1,8 +1,10 @@
 //! What IEEE 802.11's tables and document 01's first trap ask for, asked of the proved library itself: expected answers are
 //! worked out from the tables and by hand, not by a Rust detector.
 
-use reference::ieee80211::receptions;
-use reference::{eq_31, plain};
+use reference::comparison::expect;
+use reference::format::reply;
+use reference::inputs::eq_31;
+use reference::inputs::ieee80211::receptions;
 
 /// Each symbol of each table in each stream, 10 x (2 + 4 + 16 + 64) + 6 x 256 receptions: with C = 4 every value is 4 or -4 by
 /// the sent bit (tests/mapping.rs holds the expected ones to that), and a node a stream is walked.
@@ -28,9 +30,6 @@ fn soft_values_are_those_of_the_tables() {
 #[test]
 fn a_clip_at_each_new_best_leaf_would_be_wrong() {
     for (block, answer) in eq_31::cases() {
-        let expected = plain::reply_bytes(&block, &[answer]);
-        let mut reply = vec![0xA5; block.buffer_bound()];
-        let length = linked::detect(&block.record(), &mut reply);
-        assert_eq!((length, &reply[..expected.len()]), (expected.len() as i64, expected.as_slice()), "D = {}", block.share);
+        expect(linked::detect, &block.record(), block.room(), Ok(&reply::encode(&block, &[answer])));
     }
 }

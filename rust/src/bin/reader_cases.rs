@@ -4,33 +4,25 @@
 //! it would write. The input has the cases one after another, each a two-byte length, low byte first, and that many bytes. The
 //! output has a line for each: `refused` and the refusal's number, or `accepted`, how many numbers there are and their checksum.
 
-use reference::cases::{all, Case};
-use reference::record::read;
+use reference::command::{self, run};
+use reference::format::record::read;
+use reference::inputs::cases::{all, Case};
 use std::path::Path;
 use std::process::ExitCode;
-use std::{env, fs};
 
 /// The most bytes of input that the program under test takes.
 const MOST_INPUT: usize = 262_144;
 
 fn main() -> ExitCode {
-    let arguments: Vec<String> = env::args().skip(1).collect();
-    let words: Vec<&str> = arguments.iter().map(String::as_str).collect();
-    let outcome = match words[..] {
-        ["--check", folder] => check(Path::new(folder)),
-        [folder] if folder != "--check" => write(Path::new(folder)),
-        _ => Err("usage: reader_cases [--check] FOLDER".to_string()),
-    };
-    match outcome {
-        Ok(said) => {
-            println!("{said}");
-            ExitCode::SUCCESS
-        }
-        Err(said) => {
-            eprintln!("reader_cases: {said}");
-            ExitCode::FAILURE
-        }
-    }
+    run("reader_cases", |words| {
+        let said = match *words {
+            ["--check", folder] => check(Path::new(folder)),
+            [folder] if folder != "--check" => write(Path::new(folder)),
+            _ => Err("usage: reader_cases [--check] FOLDER".to_string()),
+        }?;
+        println!("{said}");
+        Ok(())
+    })
 }
 
 /// A case as it stands in the input.
@@ -59,23 +51,23 @@ fn write(folder: &Path) -> Result<String, String> {
     let input: Vec<u8> = cases.iter().flat_map(framed).collect();
     let output: String = cases.iter().map(line).collect();
     assert!(input.len() < MOST_INPUT, "{} bytes of input are too many", input.len());
-    fs::write(folder.join("stdin"), &input).map_err(|error| format!("stdin: {error}"))?;
-    fs::write(folder.join("stdout"), &output).map_err(|error| format!("stdout: {error}"))?;
+    command::write(&folder.join("stdin"), &input)?;
+    command::write(&folder.join("stdout"), output.as_bytes())?;
     Ok(format!("{} cases, {} bytes of input, {} of output", cases.len(), input.len(), output.len()))
 }
 
 fn check(folder: &Path) -> Result<String, String> {
-    let input = fs::read(folder.join("stdin")).map_err(|error| format!("stdin: {error}"))?;
-    let output = fs::read(folder.join("stdout")).map_err(|error| format!("stdout: {error}"))?;
     let cases = all();
-    compare("stdin", &input, &cases, framed)?;
-    compare("stdout", &output, &cases, |case| line(case).into_bytes())?;
+    compare(&folder.join("stdin"), &cases, framed)?;
+    compare(&folder.join("stdout"), &cases, |case| line(case).into_bytes())?;
     Ok(format!("{} cases agree", cases.len()))
 }
 
 /// Goes through a stored file case by case, and names the first that is not what it should be.
-fn compare(file: &str, stored: &[u8], cases: &[Case], expected: fn(&Case) -> Vec<u8>) -> Result<(), String> {
-    let mut rest = stored;
+fn compare(path: &Path, cases: &[Case], expected: fn(&Case) -> Vec<u8>) -> Result<(), String> {
+    let stored = command::read(path)?;
+    let file = path.display();
+    let mut rest = stored.as_slice();
     for (index, case) in cases.iter().enumerate() {
         let wanted = expected(case);
         rest = rest

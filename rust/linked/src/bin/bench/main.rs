@@ -11,42 +11,31 @@ mod plot;
 mod sets;
 mod timing;
 
+use reference::command::{self, run};
+use reference::detectors::Detector;
+use reference::format::reply::MOST_ROOM;
 use std::path::Path;
 use std::process::ExitCode;
-use std::{env, fs};
-use timing::{Detector, PROVED, RUST};
+use timing::{PROVED, RUST};
 
 fn main() -> ExitCode {
-    let arguments: Vec<String> = env::args().skip(1).collect();
-    let words: Vec<&str> = arguments.iter().map(String::as_str).collect();
-    let outcome = match words[..] {
+    run("bench", |words| match *words {
         ["times"] => print_times(&sets::own()),
         ["times", folder] => sets::of_folder(Path::new(folder)).and_then(|records| print_times(&records)),
-        ["plot", file] => write(Path::new(file), plot::drawing().as_bytes()),
+        ["plot", file] => command::write(Path::new(file), plot::drawing().as_bytes()),
         ["records", folder] => write_records(Path::new(folder)),
         ["repeat", "proved", count, file] => repeat(PROVED, count, file),
         ["repeat", "rust", count, file] => repeat(RUST, count, file),
         _ => Err("usage: bench times [FOLDER], plot FILE, records FOLDER, repeat proved|rust COUNT FILE".to_string()),
-    };
-    match outcome {
-        Ok(()) => ExitCode::SUCCESS,
-        Err(said) => {
-            eprintln!("bench: {said}");
-            ExitCode::FAILURE
-        }
-    }
-}
-
-fn write(file: &Path, bytes: &[u8]) -> Result<(), String> {
-    fs::write(file, bytes).map_err(|error| format!("{}: {error}", file.display()))
+    })
 }
 
 fn write_records(folder: &Path) -> Result<(), String> {
-    sets::own().iter().try_for_each(|record| write(&folder.join(format!("{}.rec", record.name)), &record.bytes))
+    sets::own().iter().try_for_each(|record| command::write(&folder.join(format!("{}.rec", record.name)), &record.bytes))
 }
 
 fn repeat(detect: Detector, count: &str, file: &str) -> Result<(), String> {
-    let bytes = fs::read(file).map_err(|error| format!("{file}: {error}"))?;
+    let bytes = command::read(Path::new(file))?;
     let count = count.parse().map_err(|_| format!("{count} is no count"))?;
     let record = sets::Record::of(file.to_string(), bytes)?;
     timing::run(detect, &record.bytes, count);
@@ -64,7 +53,7 @@ fn print_times(records: &[sets::Record]) -> Result<(), String> {
         "Both detectors built for release, in one process, by turns on the same record; the least of {} turns.",
         timing::TURNS
     );
-    println!("Each call of either gets a reply buffer of {} bytes that is cleared first; the clearing is timed.\n", timing::ROOM);
+    println!("Each call of either gets a reply buffer of {} bytes that is cleared first; the clearing is timed.\n", MOST_ROOM);
     println!("{HEAD}\n|---|---|---|---|---|---|---|---|");
     let mut sums: Vec<((usize, usize), timing::Times)> = vec![];
     for (record, times) in records.iter().zip(timing::times(records)?) {

@@ -3,7 +3,7 @@
 use crate::chart::{chart, Curve, Panel};
 use crate::sets::Record;
 use crate::timing::{times, Times};
-use reference::channel::Plan;
+use reference::inputs::channel::Plan;
 
 /// The noise per axis, as `Plan` has it, the signal-to-noise ratio at an antenna (M x 42 to both axes' noise), and a colour.
 const NOISES: [(f64, &str, &str); 3] = [(0.9, "20 dB", "#d55e00"), (0.5, "25 dB", "#0072b2"), (0.3, "30 dB", "#009e73")];

@@ -1,8 +1,11 @@
 //! The records that are measured.
 
-use reference::chance::Chance;
-use reference::channel::Plan;
-use reference::{fast, record};
+use crate::timing;
+use reference::command;
+use reference::format::block::Block;
+use reference::format::reply;
+use reference::inputs::chance::Chance;
+use reference::inputs::channel::Plan;
 use std::fs;
 use std::path::{Path, PathBuf};
 
@@ -18,24 +21,15 @@ pub struct Record {
 
 impl Record {
     pub fn of(name: String, bytes: Vec<u8>) -> Result<Record, String> {
-        let numbers = record::read(&bytes).map_err(|refusal| format!("{name}: refused by {refusal}"))?;
-        let [streams, bits, vectors] = [0, 1, 2].map(|at: usize| numbers[at] as usize);
-        let mut reply = vec![0; super::timing::ROOM];
-        let length = fast::detect(&bytes, &mut reply);
-        reply.truncate(usize::try_from(length).map_err(|_| format!("{name}: refused by {}", -length))?);
-        Ok(Record { nodes: walked_nodes(&reply, 3 + streams * bits), name, bytes, streams, bits, vectors })
+        let block = Block::read(&bytes).map_err(|refusal| format!("{name}: refused by {refusal}"))?;
+        let (reply, _) = timing::run(timing::RUST, &bytes, 1);
+        let nodes = reply::decode(&reply).iter().map(|answer| answer.nodes as u64).sum();
+        Ok(Record { name, bytes, streams: block.streams, bits: block.bits, vectors: block.vectors.len(), nodes })
     }
 
     pub fn of_plan(name: String, plan: &Plan, seed: u64) -> Record {
         Record::of(name, plan.block(&mut Chance(seed)).record()).expect("a plan makes records that are accepted")
     }
-}
-
-/// The sum of a reply's counts. A vector has as many numbers as said; its count is the second.
-fn walked_nodes(reply: &[u8], vector_numbers: usize) -> u64 {
-    let number = |groups: &[u8]| groups.iter().rev().fold(0, |number, &group| number * 128 + u64::from(group & 127));
-    let numbers = reply[4..].split_inclusive(|&byte| byte < 128).map(number);
-    numbers.skip(4).step_by(vector_numbers).sum()
 }
 
 /// Receptions over Rayleigh channels, 16 vectors a record under a share of 3,000: M, Q, noise, clip and priors as in `Plan`. The widest clip
@@ -69,5 +63,5 @@ pub fn of_folder(folder: &Path) -> Result<Vec<Record>, String> {
 
 fn of_file(file: &Path) -> Result<Record, String> {
     let name = file.file_stem().unwrap_or_default().to_string_lossy().into_owned();
-    Record::of(name, fs::read(file).map_err(|error| format!("{}: {error}", file.display()))?)
+    Record::of(name, command::read(file)?)
 }

@@ -1,16 +1,13 @@
 //! The two detectors, and how long they take.
 
 use crate::sets::Record;
+use reference::detectors::{fast, Detector};
+use reference::format::reply::MOST_ROOM;
 use std::hint::black_box;
 use std::time::Instant;
 
-pub type Detector = fn(&[u8], &mut [u8]) -> i64;
-
 pub const PROVED: Detector = linked::detect;
-pub const RUST: Detector = reference::fast::detect;
-
-/// The reply buffer's length: enough for every record.
-pub const ROOM: usize = 6_727;
+pub const RUST: Detector = fast::detect;
 
 /// Passes over all records, and how often each detector is timed on a record in a pass: fewer times where these take longer than `LONG`
 /// seconds. The least time of all counts; passes spread it over spells in which the machine has other work.
@@ -66,7 +63,7 @@ impl Times {
 
 /// Runs a detector some times; before each run its buffer is cleared. The buffer and the returned number of the last run.
 pub fn run(detect: Detector, record: &[u8], count: usize) -> (Vec<u8>, i64) {
-    let mut reply = vec![0; ROOM];
+    let mut reply = vec![0; MOST_ROOM];
     let mut length = 0;
     for _ in 0..count {
         black_box(&mut reply).fill(0);

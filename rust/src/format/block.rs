@@ -1,6 +1,8 @@
 //! A block record's numbers by their names in document 01.
 
-use crate::record::{encode, Numbers};
+use super::encoding::{encode, Numbers};
+use super::record::{self, Refusal};
+use super::reply;
 use std::ops::{Add, Mul, Sub};
 
 /// A complex number with whole parts.
@@ -89,6 +91,11 @@ impl Block {
         Block { streams, bits, clip: numbers[3], share: numbers[4], vectors }
     }
 
+    /// The block of a record's bytes.
+    pub fn read(record: &[u8]) -> Result<Block, Refusal> {
+        record::read(record).map(|numbers| Block::of(&numbers))
+    }
+
     /// Its numbers in record order.
     pub fn numbers(&self) -> Numbers {
         let sizes = [self.streams as i64, self.bits as i64, self.vectors.len() as i64, self.clip, self.share];
@@ -100,8 +107,37 @@ impl Block {
     }
 
     /// The shortest reply buffer that is accepted.
-    pub fn buffer_bound(&self) -> usize {
-        7 + self.vectors.len() * (9 + 4 * self.streams * self.bits)
+    pub fn room(&self) -> usize {
+        reply::room(self.streams, self.bits, self.vectors.len())
+    }
+
+    /// How many bits a label has.
+    pub fn label_bits(&self) -> usize {
+        self.streams * self.bits
+    }
+
+    /// A bit's place in a label; the label's first bit, which is its highest, is bit 0.
+    pub fn mask(&self, bit: usize) -> usize {
+        1 << (self.label_bits() - 1 - bit)
+    }
+
+    /// The label of these symbols, the lowest stream first; bits of streams that have none are 0.
+    pub fn label(&self, symbols: &[usize]) -> usize {
+        symbols.iter().fold(0, |label, symbol| (label << self.bits) + symbol)
+    }
+}
+
+/// The real and the imaginary part of each.
+pub fn parts(entries: &[Complex]) -> Numbers {
+    entries.iter().flat_map(|entry| [entry.re, entry.im]).collect()
+}
+
+/// Does a bit go against the sign of its prior? A prior of 0 has none.
+pub fn is_against(prior: i64, is_one: bool) -> bool {
+    if is_one {
+        prior > 0
+    } else {
+        prior < 0
     }
 }
 
@@ -119,13 +155,12 @@ impl Vector {
     }
 
     fn numbers(&self) -> Numbers {
-        let mut numbers = Numbers::new();
-        for (row, entries) in self.matrix.iter().enumerate() {
-            numbers.push(entries[row].re);
-            numbers.extend(entries[row + 1..].iter().flat_map(|entry| [entry.re, entry.im]));
-        }
-        numbers.extend(self.received.iter().flat_map(|entry| [entry.re, entry.im]));
-        numbers.extend(&self.priors);
-        numbers
+        self.rows().flatten().chain(parts(&self.received)).chain(self.priors.iter().copied()).collect()
+    }
+
+    /// R's numbers, row by row.
+    pub fn rows(&self) -> impl Iterator<Item = Numbers> + '_ {
+        let numbers = |(row, entries): (usize, &Vec<Complex>)| [vec![entries[row].re], parts(&entries[row + 1..])].concat();
+        self.matrix.iter().enumerate().map(numbers)
     }
 }

@@ -19,11 +19,9 @@ mod limits;
 mod reading;
 mod search;
 
+use crate::format::reply::{room, OPENING};
 use reading::Sizes;
 use search::Search;
-
-/// The four bytes that open a reply.
-const OPENING: [u8; 4] = [0x43, 0x42, 0x53, 0x31];
 
 /// The reply's length, or minus the refusal number.
 pub fn detect(record: &[u8], reply: &mut [u8]) -> i64 {
@@ -31,7 +29,7 @@ pub fn detect(record: &[u8], reply: &mut [u8]) -> i64 {
         Ok(read) => read,
         Err(refusal) => return -i64::from(refusal),
     };
-    if reply.len() < 7 + sizes.vectors * (9 + 4 * sizes.streams * sizes.bits) {
+    if reply.len() < room(sizes.streams, sizes.bits, sizes.vectors) {
         return -14;
     }
     let length = match sizes.bits {

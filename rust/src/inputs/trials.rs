@@ -1,17 +1,20 @@
-//! Records that one detector is compared with another on, by kind; the same in every run. All sizes M, Q and N, both ends of C and D
-//! and of every other number, ties, priors beyond the clip, channels, long walks, and damage of every sort.
+//! Records that one detector, or reader, is compared with another on, in groups: all sizes M, Q and N, both ends of C and D and of
+//! every other number, ties, priors beyond the clip, channels, long walks, and damage of every sort.
 
-use crate::block::{Block, SHAPES};
-use crate::cases::range;
-use crate::chance::Chance;
-use crate::channel::{any_block, Plan, Sizes};
-use crate::record::{encode, places, plain, read, Place, OPENING};
+use super::cases;
+use super::chance::Chance;
+use super::channel::{any_block, Plan, Sizes};
+use super::numbers::{numbers_by, range};
+use super::readings::{starred, two_streams, LISTING_RECORD};
+use super::{lengths, Group};
+use crate::format::block::{Block, SHAPES};
+use crate::format::encoding::{encode, parts, plain, Place, OPENING};
 
 /// How many blocks of each kind of numbers: 500 of each M and Q.
 const TURNS: usize = 500 * SHAPES.len();
 
 /// M and Q whose whole trees the plain detector can walk.
-const SMALL_TREES: [(usize, usize); 12] =
+pub const SMALL_TREES: [(usize, usize); 12] =
     [(1, 1), (2, 1), (3, 1), (4, 1), (1, 2), (2, 2), (3, 2), (1, 4), (1, 6), (4, 2), (2, 4), (1, 8)];
 
 /// A record, and the length of the shortest buffer that is accepted if the record is.
@@ -25,22 +28,19 @@ pub struct Trial {
 impl Trial {
     /// Any bytes. A record that is refused has room for a reply of one small vector.
     pub fn of(record: Vec<u8>) -> Trial {
-        match read(&record) {
-            Ok(numbers) => {
-                let suits_plain = numbers[0] * numbers[1] <= 8 || numbers[4] <= 60;
-                Trial { room: Block::of(&numbers).buffer_bound(), suits_plain, record }
-            }
+        match Block::read(&record) {
+            Ok(block) => Trial { room: block.room(), suits_plain: block.label_bits() <= 8 || block.share <= 60, record },
             Err(_) => Trial { room: 24, suits_plain: true, record },
         }
     }
 
     fn of_block(block: &Block) -> Trial {
-        Trial { record: block.record(), room: block.buffer_bound(), suits_plain: true }
+        Trial { record: block.record(), room: block.room(), suits_plain: true }
     }
 
-    /// Buffers to try: one that just does, one that is a byte short, and one with bytes to spare.
-    pub fn lengths(&self) -> [usize; 3] {
-        [self.room, self.room - 1, self.room + 40]
+    /// Buffers to try: one that just does first. The longest walks are not walked twice.
+    pub fn lengths(&self) -> impl Iterator<Item = usize> + '_ {
+        lengths(self.room).into_iter().filter(|&length| self.suits_plain || length <= self.room)
     }
 }
 
@@ -95,18 +95,15 @@ pub fn ends() -> impl Iterator<Item = Trial> {
     let mut chance = Chance(14);
     (0..10 * SHAPES.len()).map(move |turn| {
         let (streams, bits) = shape(turn);
-        let (streams, bits) = (streams as i64, bits as i64);
-        let number = |place: &Place| match place {
-            Place::Streams => streams,
-            Place::Bits => bits,
-            Place::Vectors => 2,
+        let streams = streams as i64;
+        let number = |place: Place| match place {
             Place::Share => streams + 8,
             other => {
-                let (least, greatest) = range(*other, streams);
+                let (least, greatest) = range(other, streams);
                 chance.one_of(&[least, greatest])
             }
         };
-        Trial::of(encode(&places(streams, bits, 2).iter().map(number).collect::<Vec<_>>()))
+        Trial::of(encode(&numbers_by(streams, bits as i64, 2, number)))
     })
 }
 
@@ -213,19 +210,14 @@ pub fn over_long_numbers() -> impl Iterator<Item = Trial> {
 }
 
 /// The record of these numbers, but for one: its last group has the high bit, and groups of 0 follow, to `least` groups at least.
-fn with_over_long(numbers: &[i64], place: usize, least: usize) -> Vec<u8> {
-    let all = places(numbers[0], numbers[1], numbers[2]);
-    let bytes = |at: usize| {
-        let mut groups = all[at].bytes(numbers[at]);
-        if at == place {
-            let length = least.max(groups.len() + 1);
-            groups.iter_mut().for_each(|group| *group |= 128);
-            groups.resize(length - 1, 128);
-            groups.push(0);
-        }
-        groups
-    };
-    OPENING.into_iter().chain((0..numbers.len()).flat_map(bytes)).collect()
+fn with_over_long(numbers: &[i64], at: usize, least: usize) -> Vec<u8> {
+    let mut parts = parts(numbers);
+    let groups = &mut parts[at];
+    let length = least.max(groups.len() + 1);
+    groups.iter_mut().for_each(|group| *group |= 128);
+    groups.resize(length - 1, 128);
+    groups.push(0);
+    [OPENING.to_vec(), parts.concat()].concat()
 }
 
 /// M from 0 to 5 with Q from 0 to 10, and with larger ones that are 8 in their last 7, 8 or 16 bits.
@@ -251,28 +243,50 @@ fn of_sizes(chance: &mut Chance, streams: i64, bits: i64) -> Vec<Vec<u8>> {
 
 /// The record reader's test records.
 pub fn reader_cases() -> impl Iterator<Item = Trial> {
-    crate::cases::all().into_iter().map(|case| Trial::of(case.bytes))
+    cases::all().into_iter().map(|case| Trial::of(case.bytes))
 }
 
-/// Document 01's bench readings: M = 1 with each starred C, D and prior, M = 2 with each C and D, and the listing.
+/// Document 01's starred readings, their edges, and the listing.
 pub fn readings() -> impl Iterator<Item = Trial> {
-    const TWO_STREAMS: [i64; 10] = [1, 1, 0, 1, 1, 0, -1, 0, 0, 0];
-    let one = [(2, 0, 5, 2), (2, 0, 8, 2), (2, 0, 9, 2), (0, 0, 5, 2), (2, 10, 5, 2), (2, 10, 5, 1)];
-    let two = [(1, 10, 5), (1, 10, 4), (1, 3, 5), (1, 0, 5), (1, 10, 1), (1, 10, 2), (1, 16_777_216, 5), (2, 10, 3)];
-    let one = one.into_iter().map(|(y, prior, clip, share)| encode(&[1, 1, 1, clip, share, 1, y, 0, prior]));
-    let two = two.into_iter().map(|(count, clip, share)| {
-        let sizes = [2, 1, count, clip, share];
-        encode(&[sizes.as_slice(), &TWO_STREAMS.repeat(count as usize)].concat())
-    });
-    one.chain(two).map(Trial::of)
+    let edges = [two_streams(10, 1), two_streams(10, 2), two_streams(16_777_216, 5)];
+    let numbers = starred().into_iter().map(|reading| reading.numbers).chain(edges);
+    numbers.map(|numbers| encode(&numbers)).chain([LISTING_RECORD.to_vec()]).map(Trial::of)
 }
 
-/// All of these but the longest walks.
+/// The groups, in the order in which a slip is looked for.
+pub fn groups() -> Vec<Group<Trial>> {
+    vec![
+        Group::of("readings", (14, 12), readings()),
+        Group::of("the record reader's cases", (2_344, 678), reader_cases()),
+        Group::of("ties", (9_500, 9_500), ties()),
+        Group::of("priors beyond the clip", (9_500, 9_500), priors_beyond_the_clip()),
+        Group::of("full range", (9_500, 9_500), full_range()),
+        Group::of("ends of ranges", (190, 190), ends()),
+        Group::of("channels", (4_000, 4_000), channels()),
+        Group::of("every count of vectors", (1_216, 1_216), every_count()),
+        Group::of("whole walks", (3_000, 3_000), whole_walks()),
+        Group::of("long walks", (64, 64), long_walks()),
+        Group::of("every pair of sizes", (840, 95), widths()),
+        Group::of("damaged", (9_500, 1_719), damaged()),
+        Group::of("cut at each length", (2_746, 38), cut_at_each_length()),
+        Group::of("over-long numbers", (1_806, 0), over_long_numbers()),
+        Group::of("longest walks", (84, 84), longest_walks()),
+    ]
+}
+
+/// The records of all groups.
 pub fn all() -> impl Iterator<Item = Trial> {
-    let readings = readings().chain(reader_cases());
-    let accepted =
-        ties().chain(priors_beyond_the_clip()).chain(full_range()).chain(ends()).chain(channels()).chain(every_count());
-    let walks = whole_walks().chain(long_walks());
-    let refused = widths().chain(damaged()).chain(cut_at_each_length()).chain(over_long_numbers());
-    readings.chain(accepted).chain(walks).chain(refused)
+    groups().into_iter().flat_map(|group| group.inputs)
+}
+
+#[cfg(test)]
+mod tests {
+    use super::*;
+
+    /// The longest walks do not, and a few of the reader's cases and of the damaged records.
+    #[test]
+    fn all_but_a_few_suit_the_plain_detector() {
+        assert_eq!(all().count(), 54_304);
+        assert_eq!(all().filter(|trial| trial.suits_plain).count(), 54_054);
+    }
 }

@@ -3,48 +3,21 @@
 //!
 //! Streams, rows and bits count from 0 here: stream 0 is the paper's stream 1, and bit 0 the label's first and highest.
 
-use crate::block::{Block, Complex, Vector};
-use crate::record::{folded, plain, read};
-
-/// The four bytes that open a reply.
-const OPENING: [u8; 4] = [0x43, 0x42, 0x53, 0x31];
+use crate::format::block::{is_against, Block, Complex, Vector};
+use crate::format::reply::{encode, Answer};
 
 /// The reply's length, or minus the refusal number.
 pub fn detect(record: &[u8], reply: &mut [u8]) -> i64 {
-    let block = match read(record) {
-        Ok(numbers) => Block::of(&numbers),
+    let block = match Block::read(record) {
+        Ok(block) => block,
         Err(refusal) => return -i64::from(refusal),
     };
-    if reply.len() < block.buffer_bound() {
+    if reply.len() < block.room() {
         return -14;
     }
-    let bytes = reply_bytes(&block, &answers(&block));
+    let bytes = encode(&block, &answers(&block));
     reply[..bytes.len()].copy_from_slice(&bytes);
     bytes.len() as i64
-}
-
-/// What the reply says of one vector.
-#[derive(Clone, Debug, PartialEq, Eq)]
-pub struct Answer {
-    pub stopped: bool,
-    pub nodes: i64,
-    pub label: usize,
-    pub values: Vec<i64>,
-}
-
-/// The reply that has these answers.
-pub fn reply_bytes(block: &Block, answers: &[Answer]) -> Vec<u8> {
-    let mut bytes = OPENING.to_vec();
-    for number in [block.streams, block.bits, block.vectors.len()] {
-        bytes.extend(plain(number as i64));
-    }
-    for answer in answers {
-        bytes.extend(plain(i64::from(answer.stopped)));
-        bytes.extend(plain(answer.nodes));
-        bytes.extend(plain(answer.label as i64));
-        bytes.extend(answer.values.iter().copied().flat_map(folded));
-    }
-    bytes
 }
 
 /// The answers in record order: vector k may walk N x D, less the nodes walked before it, less (N - k) x M.
@@ -65,8 +38,8 @@ fn answer(block: &Block, vector: &Vector, allowance: i64) -> Answer {
     let mut walk = Walk { block, vector, allowance, nodes: 0, stopped: false, leaves: Vec::new() };
     walk.below(&[], 0);
     let best = best(&walk.leaves).expect("an allowance of at least M reaches a leaf");
-    let value = |bit: usize| soft_value(&walk.leaves, mask(block, bit), vector.priors[bit], block.clip);
-    let values = (0..block.streams * block.bits).map(value).collect();
+    let value = |bit: usize| soft_value(&walk.leaves, block.mask(bit), vector.priors[bit], block.clip);
+    let values = (0..block.label_bits()).map(value).collect();
     Answer { stopped: walk.stopped, nodes: walk.nodes, label: best.label, values }
 }
 
@@ -112,11 +85,6 @@ pub fn point(bits: usize, symbol: usize) -> Complex {
     Complex { re: amplitude(first_half, symbol >> second_half), im: amplitude(second_half, symbol % (1 << second_half)) }
 }
 
-/// A bit's place in a label.
-fn mask(block: &Block, bit: usize) -> usize {
-    1 << (block.streams * block.bits - 1 - bit)
-}
-
 // The metric.
 
 /// Row i's increment, where the streams from i on have these symbols, stream i's first.
@@ -135,16 +103,9 @@ pub fn distance(vector: &Vector, row: usize, points: impl Iterator<Item = Comple
 /// The priors' magnitudes where a stream's bits go against their signs.
 pub fn prior_cost(block: &Block, vector: &Vector, stream: usize, symbol: usize) -> i64 {
     let priors = &vector.priors[stream * block.bits..(stream + 1) * block.bits];
-    let cost = |(place, &prior): (usize, &i64)| {
-        let is_one = symbol >> (block.bits - 1 - place) & 1 == 1;
-        let goes_against = if is_one { prior > 0 } else { prior < 0 };
-        if goes_against {
-            prior.abs()
-        } else {
-            0
-        }
-    };
-    priors.iter().enumerate().map(cost).sum()
+    let is_one = |place: usize| symbol >> (block.bits - 1 - place) & 1 == 1;
+    let against = priors.iter().enumerate().filter(|&(place, &prior)| is_against(prior, is_one(place)));
+    against.map(|(_, prior)| prior.abs()).sum()
 }
 
 // Demand 2 over a set of labels.
@@ -190,7 +151,7 @@ impl Walk<'_> {
     /// Walks below a node, or the root: `symbols` of the streams chosen, the lowest stream first, and their partial metric.
     fn below(&mut self, symbols: &[usize], partial: i64) {
         if symbols.len() == self.block.streams {
-            self.leaves.push(Leaf { label: self.label(symbols), metric: partial });
+            self.leaves.push(Leaf { label: self.block.label(symbols), metric: partial });
             return;
         }
         for (metric, child) in self.children(symbols, partial) {
@@ -228,23 +189,18 @@ impl Walk<'_> {
             return true;
         };
         let first_chosen = (self.block.streams - child.len()) * self.block.bits;
-        let differing = self.label(child) ^ best.label;
-        let counts = |bit: usize| bit < first_chosen || differing & mask(self.block, bit) != 0;
-        let mut bits = 0..self.block.streams * self.block.bits;
+        let differing = self.block.label(child) ^ best.label;
+        let counts = |bit: usize| bit < first_chosen || differing & self.block.mask(bit) != 0;
+        let mut bits = 0..self.block.label_bits();
         metric <= best.metric || bits.any(|bit| counts(bit) && self.is_below_limit(metric, best, bit))
     }
 
     /// Is a metric below a bit's limit: below U, and below B + C with the prior added or taken off?
     fn is_below_limit(&self, metric: i64, best: Leaf, bit: usize) -> bool {
-        let mask = mask(self.block, bit);
+        let mask = self.block.mask(bit);
         let is_one = best.label & mask != 0;
         let prior = self.vector.priors[bit];
         let clipped = best.metric + self.block.clip + if is_one { -prior } else { prior };
         metric < clipped && least(&self.leaves, mask, !is_one).is_none_or(|opposite| metric < opposite)
-    }
-
-    /// The label of these symbols, the lowest stream first; bits of streams not yet chosen are 0.
-    fn label(&self, symbols: &[usize]) -> usize {
-        symbols.iter().fold(0, |label, symbol| (label << self.block.bits) + symbol)
     }
 }

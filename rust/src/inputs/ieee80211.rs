@@ -1,44 +1,21 @@
-//! IEEE 802.11's encoding tables (BPSK, QPSK, 16-QAM and 64-QAM of the OFDM PHY; 256-QAM, which the newer PHYs add, b0 b1 b2 b3
-//! for I and b4 b5 b6 b7 for Q), typed from the standard's pattern with no copy of it at hand; and receptions of their points
-//! without noise, with what document 01 makes of the tables. No detector's constellation is used here.
+//! IEEE 802.11's encoding tables, and receptions of their points without noise, with what document 01 makes of the tables. No
+//! detector's constellation is used here.
+//!
+//! BPSK, QPSK, 16-QAM and 64-QAM are of the OFDM PHY; 256-QAM, which the newer PHYs add, has b0 b1 b2 b3 for I and b4 b5 b6 b7 for Q.
+//! The tables were typed from the standard's pattern with no copy of it at hand.
 
-use crate::block::{Block, Complex, Vector};
-use crate::plain::{reply_bytes, Answer};
+use crate::detectors::Detector;
+use crate::format::block::{Block, Complex, Vector};
+use crate::format::reply::{self, Answer};
 
 /// A row of an axis: the input bits and I out or Q out. Rows are by rising amplitude.
 pub type Row = (&'static str, i64);
 
-const BPSK_I: [Row; 2] = [("0", -1), ("1", 1)];
-const BPSK_Q: [Row; 1] = [("", 0)];
-
-const QPSK_I: [Row; 2] = [("0", -1), ("1", 1)];
-const QPSK_Q: [Row; 2] = [("0", -1), ("1", 1)];
-
-const QAM_16_I: [Row; 4] = [("00", -3), ("01", -1), ("11", 1), ("10", 3)];
-const QAM_16_Q: [Row; 4] = [("00", -3), ("01", -1), ("11", 1), ("10", 3)];
-
-const QAM_64_I: [Row; 8] = [("000", -7), ("001", -5), ("011", -3), ("010", -1), ("110", 1), ("111", 3), ("101", 5), ("100", 7)];
-const QAM_64_Q: [Row; 8] = [("000", -7), ("001", -5), ("011", -3), ("010", -1), ("110", 1), ("111", 3), ("101", 5), ("100", 7)];
-
-const QAM_256_I: [Row; 16] = [
-    ("0000", -15),
-    ("0001", -13),
-    ("0011", -11),
-    ("0010", -9),
-    ("0110", -7),
-    ("0111", -5),
-    ("0101", -3),
-    ("0100", -1),
-    ("1100", 1),
-    ("1101", 3),
-    ("1111", 5),
-    ("1110", 7),
-    ("1010", 9),
-    ("1011", 11),
-    ("1001", 13),
-    ("1000", 15),
-];
-const QAM_256_Q: [Row; 16] = [
+const NO_BITS: [Row; 1] = [("", 0)];
+const PSK: [Row; 2] = [("0", -1), ("1", 1)];
+const QAM_16: [Row; 4] = [("00", -3), ("01", -1), ("11", 1), ("10", 3)];
+const QAM_64: [Row; 8] = [("000", -7), ("001", -5), ("011", -3), ("010", -1), ("110", 1), ("111", 3), ("101", 5), ("100", 7)];
+const QAM_256: [Row; 16] = [
     ("0000", -15),
     ("0001", -13),
     ("0011", -11),
@@ -57,14 +34,9 @@ const QAM_256_Q: [Row; 16] = [
     ("1000", 15),
 ];
 
-/// The I and the Q table of each Q.
-pub const AXES: [(usize, &[Row], &[Row]); 5] = [
-    (1, &BPSK_I, &BPSK_Q),
-    (2, &QPSK_I, &QPSK_Q),
-    (4, &QAM_16_I, &QAM_16_Q),
-    (6, &QAM_64_I, &QAM_64_Q),
-    (8, &QAM_256_I, &QAM_256_Q),
-];
+/// The I and the Q table of each Q: the standard prints the same one for both, but for BPSK, which has no Q.
+pub const AXES: [(usize, &[Row], &[Row]); 5] =
+    [(1, &PSK, &NO_BITS), (2, &PSK, &PSK), (4, &QAM_16, &QAM_16), (6, &QAM_64, &QAM_64), (8, &QAM_256, &QAM_256)];
 
 /// A symbol's bits as the standard writes them, b0 first, and its point.
 pub type Symbol = (String, Complex);
@@ -126,15 +98,14 @@ impl Reception {
     }
 
     /// Holds a detector to the label and the values, and to a complete search; how many nodes it says it walked.
-    pub fn check(&self, detect: fn(&[u8], &mut [u8]) -> i64) -> i64 {
-        let mut reply = vec![0; self.block.buffer_bound()];
+    pub fn check(&self, detect: Detector) -> i64 {
+        let mut reply = vec![0; self.block.room()];
         let length = detect(&self.block.record(), &mut reply);
         reply.truncate(usize::try_from(length).expect("a reply"));
-        // Behind the opening, M, Q, N and the mark.
-        let nodes = number_at(&reply[8..]);
+        let nodes = reply::decode(&reply)[0].nodes;
         let answer = Answer { stopped: false, nodes, label: number(&self.sent), values: self.values.clone() };
         let Block { streams, bits, clip, .. } = self.block;
-        assert_eq!(reply, reply_bytes(&self.block, &[answer]), "{} by M = {streams}, Q = {bits}, C = {clip}", self.sent);
+        assert_eq!(reply, reply::encode(&self.block, &[answer]), "{} by M = {streams}, Q = {bits}, C = {clip}", self.sent);
         nodes
     }
 }
@@ -147,10 +118,4 @@ fn soft_value(mapping: &[Symbol], gain: Complex, sent: Complex, bit: usize) -> i
         with.map(|symbol| (gain * (sent - symbol.1)).magnitude_squared()).min().expect("each side has rows")
     };
     least(b'1') - least(b'0')
-}
-
-/// The number that these bytes begin with.
-fn number_at(bytes: &[u8]) -> i64 {
-    let groups = bytes.split_inclusive(|&byte| byte < 128).next().expect("a number");
-    groups.iter().rev().fold(0, |number, &group| number * 128 + i64::from(group % 128))
 }

@@ -1,7 +1,8 @@
 //! Block records by chance: as a receiver meets them (`Plan`), and with whatever numbers a record may hold (`any_block`).
 
-use crate::block::{Block, Complex, Vector};
-use crate::chance::Chance;
+use super::chance::Chance;
+use crate::detectors::plain::point;
+use crate::format::block::{Block, Complex, Vector};
 
 /// What a channel's entry is about, in units of the record's whole numbers.
 const SCALE: f64 = 150.0;
@@ -42,7 +43,7 @@ impl Plan {
     }
 
     fn received(&self, chance: &mut Chance, row: &[Complex], sent: &[usize]) -> Complex {
-        let terms = row.iter().zip(sent).map(|(&entry, &symbol)| entry * crate::plain::point(self.bits, symbol));
+        let terms = row.iter().zip(sent).map(|(&entry, &symbol)| entry * point(self.bits, symbol));
         let clean = terms.fold(Complex::ZERO, |sum, term| sum + term);
         let mut axis = |part: i64| rounded(part as f64 + chance.normal() * self.noise * SCALE, -131_071, 131_071);
         Complex { re: axis(clean.re), im: axis(clean.im) }
@@ -140,8 +141,7 @@ fn any_complex(chance: &mut Chance, size: i64) -> Complex {
 #[cfg(test)]
 mod tests {
     use super::*;
-    use crate::block::SHAPES;
-    use crate::record::read;
+    use crate::format::block::SHAPES;
 
     const PLAN: Plan = Plan { streams: 4, bits: 6, vectors: 16, clip: 8.0, share: 3_000, noise: 0.5, prior: 2.0 };
     const WIDE_PLAN: Plan = Plan { streams: 3, bits: 8, ..PLAN };
@@ -162,12 +162,12 @@ mod tests {
         for sizes in [Sizes::TIES, Sizes::PRIORS, Sizes::FULL] {
             for (streams, bits) in SHAPES {
                 let block = any_block(&mut chance, streams, bits, 3, 9, sizes);
-                assert_eq!(read(&block.record()).map(|numbers| Block::of(&numbers)), Ok(block));
+                assert_eq!(Block::read(&block.record()), Ok(block));
             }
         }
         for plan in [PLAN, WIDE_PLAN] {
             let block = plan.block(&mut chance);
-            assert_eq!(read(&block.record()).map(|numbers| Block::of(&numbers)), Ok(block));
+            assert_eq!(Block::read(&block.record()), Ok(block));
         }
     }
 }

@@ -1,8 +1,9 @@
-//! Reading a record: its sizes, and its vectors' numbers in record order.
+//! Reading a record quickly, with checks of its own: its sizes, and its vectors' numbers in record order.
 
-/// A refusal that a record can meet: 1 to 13, and 15.
-pub type Refusal = u32;
+use crate::format::encoding::OPENING;
+use crate::format::record::Refusal;
 
+/// M, Q, N, C and D.
 pub struct Sizes {
     pub streams: usize,
     pub bits: usize,
@@ -23,7 +24,7 @@ struct Rest<'a>(&'a [u8]);
 
 /// The record's sizes, and its vectors' numbers.
 pub fn read(record: &[u8]) -> Result<(Sizes, Vec<i32>), Refusal> {
-    let Some(after) = record.strip_prefix(&[0x43, 0x42, 0x52, 0x31]) else {
+    let Some(after) = record.strip_prefix(&OPENING) else {
         return Err(1);
     };
     let mut rest = Rest(after);

@@ -1,14 +1,14 @@
-//! Block records by document 01, "The record" and "Where a record is turned back", and by document 02's Point 1, which adds Q = 8:
-//! a reader, and an encoder that makes records for tests, wrong ones too.
+//! The record reader, by document 01, "The record" and "Where a record is turned back", and by document 02's Point 1, which adds
+//! Q = 8.
 
-/// The four bytes that open a record.
-pub const OPENING: [u8; 4] = [0x43, 0x42, 0x52, 0x31];
+use super::encoding::{unfold, Numbers, OPENING};
 
 /// What Q may be.
 pub const WIDTHS: [i64; 5] = [1, 2, 4, 6, 8];
 
-/// A record's whole numbers, unfolded and in record order: M, Q, N, C, D, then each vector's.
-pub type Numbers = Vec<i64>;
+/// The most bytes that a record has, and the most numbers: 64 vectors of four streams of six bits.
+pub const MOST_BYTES: usize = 8_207;
+pub const MOST_NUMBERS: usize = 3_077;
 
 /// A refusal that a record can meet: 1 to 13 by document 01's table, and 15 by document 02.
 pub type Refusal = u32;
@@ -117,7 +117,7 @@ fn within(number: i64, least: i64, greatest: i64, refusal: Refusal) -> Result<i6
 
 /// One number taken off the front of `rest`: groups of seven bits, least significant first, the high bit on all but the last.
 /// The fourth group's high bit decides before anything is asked of a fifth byte.
-fn read_plain(rest: &mut &[u8]) -> Result<i64, Refusal> {
+pub(super) fn read_plain(rest: &mut &[u8]) -> Result<i64, Refusal> {
     let mut number = 0;
     for group in 0..4 {
         let Some((&byte, after)) = rest.split_first() else {
@@ -137,121 +137,25 @@ fn read_folded(rest: &mut &[u8]) -> Result<i64, Refusal> {
     Ok(unfold(read_plain(rest)?))
 }
 
-/// n at least 0 is folded to 2n, n below 0 to -2n - 1.
-pub fn fold(number: i64) -> i64 {
-    if number >= 0 {
-        2 * number
-    } else {
-        -2 * number - 1
-    }
-}
-
-/// The number that `fold` makes `folded` of.
-pub fn unfold(folded: i64) -> i64 {
-    if folded % 2 == 0 {
-        folded / 2
-    } else {
-        -(folded + 1) / 2
-    }
-}
-
-/// The shortest form of a number that is at least 0, in as many groups as it takes.
-pub fn plain(number: i64) -> Vec<u8> {
-    let mut left = u64::try_from(number).expect("a plain number has no sign");
-    let mut groups = Vec::new();
-    while left >= 128 {
-        groups.push((left % 128) as u8 + 128);
-        left /= 128;
-    }
-    groups.push(left as u8);
-    groups
-}
-
-/// The shortest form of a number of either sign.
-pub fn folded(number: i64) -> Vec<u8> {
-    plain(fold(number))
-}
-
-/// What a number of a record stands for.
-#[derive(Clone, Copy, Debug, PartialEq, Eq)]
-pub enum Place {
-    Streams,
-    Bits,
-    Vectors,
-    Clip,
-    Share,
-    Diagonal,
-    Right,
-    Received,
-    Prior,
-}
-
-impl Place {
-    /// The bytes of a number that stands here.
-    pub fn bytes(self, number: i64) -> Vec<u8> {
-        match self {
-            Place::Right | Place::Received | Place::Prior => folded(number),
-            _ => plain(number),
-        }
-    }
-}
-
-/// The places of a record, in record order.
-pub fn places(streams: i64, bits: i64, vectors: i64) -> Vec<Place> {
-    let mut all = vec![Place::Streams, Place::Bits, Place::Vectors, Place::Clip, Place::Share];
-    for _ in 0..vectors {
-        for row in 0..streams {
-            all.push(Place::Diagonal);
-            all.extend((row + 1..streams).flat_map(|_| [Place::Right, Place::Right]));
-        }
-        all.extend((0..streams).flat_map(|_| [Place::Received, Place::Received]));
-        all.extend((0..streams * bits).map(|_| Place::Prior));
-    }
-    all
-}
-
-/// The record of these numbers: the opening, then each number's shortest form. Nothing is ranged, so it makes records that are
-/// refused too.
-pub fn encode(numbers: &[i64]) -> Vec<u8> {
-    let places = places(numbers[0], numbers[1], numbers[2]);
-    assert_eq!(numbers.len(), places.len(), "M, Q and N say how many numbers there are");
-    let mut bytes = OPENING.to_vec();
-    for (place, &number) in places.iter().zip(numbers) {
-        bytes.extend(place.bytes(number));
-    }
-    bytes
-}
-
 #[cfg(test)]
 mod tests {
     use super::*;
-
-    /// The bench vector of two streams: R rows (1, 1), (0, 1), y = (1, -1), priors 0.
-    const BENCH: [i64; 10] = [1, 1, 0, 1, 1, 0, -1, 0, 0, 0];
-
-    fn bench(clip: i64, share: i64) -> Vec<u8> {
-        encode(&[[2, 1, 1, clip, share].as_slice(), &BENCH].concat())
-    }
-
-    fn listing() -> Vec<u8> {
-        let vector = [0x01, 0x02, 0x00, 0x01, 0x02, 0x00, 0x01, 0x00, 0x00, 0x00];
-        let sizes = [0x43, 0x42, 0x52, 0x31, 0x02, 0x01, 0x02, 0x0A, 0x03];
-        [sizes.as_slice(), &vector, &vector].concat()
-    }
+    use crate::format::encoding::{encode, plain};
+    use crate::inputs::readings::{listing_numbers, two_streams, LISTING_RECORD};
 
     #[test]
     fn the_listing_record_has_the_bench_vector_twice() {
-        let numbers = [[2, 1, 2, 10, 3].as_slice(), &BENCH, &BENCH].concat();
-        assert_eq!(read(&listing()), Ok(numbers.clone()));
-        assert_eq!(encode(&numbers), listing());
+        assert_eq!(read(&LISTING_RECORD), Ok(listing_numbers()));
+        assert_eq!(encode(&listing_numbers()), LISTING_RECORD);
     }
 
     #[test]
     fn the_bench_edges() {
-        assert_eq!(read(&bench(10, 1)), Err(8));
-        assert!(read(&bench(10, 2)).is_ok());
-        assert_eq!(read(&bench(16_777_216, 5)), Err(7));
-        assert!(read(&bench(16_777_215, 5)).is_ok());
+        let refusal = |clip: i64, share: i64| read(&encode(&two_streams(clip, share))).err();
+        assert_eq!(refusal(10, 1), Some(8));
+        assert_eq!(refusal(10, 2), None);
+        assert_eq!(refusal(16_777_216, 5), Some(7));
+        assert_eq!(refusal(16_777_215, 5), None);
     }
 
     /// Refusal 15 stands at Q: before anything is asked of N, and after 4 and 5.
@@ -287,14 +191,6 @@ mod tests {
             (vec![0xFF, 0xFF, 0xFF, 0x7F], Ok(268_435_455)),
         ] {
             assert_eq!(read_plain(&mut bytes.as_slice()), answer, "{bytes:02X?}");
-        }
-    }
-
-    #[test]
-    fn folding_goes_both_ways() {
-        for (number, folded) in [(0, 0), (-1, 1), (1, 2), (-2, 3), (2, 4), (-1_048_575, 2_097_149)] {
-            assert_eq!(fold(number), folded);
-            assert_eq!(unfold(folded), number);
         }
     }
 

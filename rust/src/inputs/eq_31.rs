@@ -35,8 +35,9 @@
 //! So the first bit's value is 12 - 6 - 10 = -4, clipped to -3. 000's list holds 12 - 10 = 2 for this bit; the clip from below
 //! makes it 8 - 3 = 5 at the leaf of 8, leaves it at the leaf of 6, and the value would be 5 - 6 = -1.
 
-use crate::block::Block;
-use crate::plain::Answer;
+use super::readings::answer;
+use crate::format::block::Block;
+use crate::format::reply::Answer;
 
 /// The metrics of labels 0 to 7.
 pub const METRICS: [i64; 8] = [10, 6, 8, 12, 12, 24, 18, 38];
@@ -65,7 +66,5 @@ pub fn cases() -> impl Iterator<Item = (Block, Answer)> {
         // 12 - 6 - 10 is clipped; 8 - 6 - 2 and 6 - 8 are not.
         (10, 0b001, [-3, 0, -2]),
     ];
-    answers
-        .into_iter()
-        .map(|(nodes, label, values)| (block(nodes), Answer { stopped: nodes < 10, nodes, label, values: values.to_vec() }))
+    answers.into_iter().map(|(nodes, label, values)| (block(nodes), answer(nodes < 10, nodes, label, values)))
 }

@@ -1,8 +1,10 @@
-//! Block records made of their numbers, and the numbers taken back, by document 02's Point 2: both fill lent memory. A list's
-//! numbers are ranged here on their own, in record order and without the record reader, so that writer and reader can be held to
-//! each other.
+//! Block records made of their numbers, and the numbers taken back, by document 02's Point 2: both fill lent memory.
+//!
+//! A list's numbers are ranged here on their own, in record order and without the record reader, so that writer and reader can be held
+//! to each other.
 
-use crate::record::{self, folded, plain, Refusal, OPENING};
+use super::encoding::{folded, plain, Numbers, OPENING};
+use super::record::{self, Refusal};
 use std::ops::RangeInclusive;
 
 /// Writes the record of a list of whole numbers, unfolded and in record order. How many bytes it wrote, or minus the refusal
@@ -15,9 +17,12 @@ pub fn write(numbers: &[i32], record: &mut [u8]) -> i64 {
 
 /// Reads a record into a list of its whole numbers, unfolded. How many numbers it wrote, or minus the refusal number.
 pub fn read(record: &[u8], numbers: &mut [i32]) -> i64 {
-    let narrow = |number: i64| i32::try_from(number).expect("a number in its range has 32 bits");
-    let verdict = record::read(record);
-    fill(numbers, verdict.map(|all| all.into_iter().map(narrow).collect()))
+    fill(numbers, record::read(record).map(narrow))
+}
+
+/// Numbers as they stand in a list.
+pub fn narrow(numbers: Numbers) -> Vec<i32> {
+    numbers.into_iter().map(|number| i32::try_from(number).expect("a list's numbers have 32 bits")).collect()
 }
 
 /// The rule for lent memory: entries that fit are put at its front and counted, a refusal alters nothing, and 14 comes last.
@@ -122,20 +127,21 @@ impl Writer<'_> {
 #[cfg(test)]
 mod tests {
     use super::*;
+    use crate::comparison::expect;
+    use crate::inputs::readings::{listing_numbers, two_streams, LISTING_RECORD};
 
-    /// Document 01's listing record and its numbers: the bench vector of two streams twice, C = 10, D = 3.
-    const LISTING: [i32; 25] = [2, 1, 2, 10, 3, 1, 1, 0, 1, 1, 0, -1, 0, 0, 0, 1, 1, 0, 1, 1, 0, -1, 0, 0, 0];
-    const LISTING_RECORD: [u8; 29] = [
-        0x43, 0x42, 0x52, 0x31, 0x02, 0x01, 0x02, 0x0A, 0x03, 0x01, 0x02, 0x00, 0x01, 0x02, 0x00, 0x01, 0x00, 0x00, 0x00, 0x01,
-        0x02, 0x00, 0x01, 0x02, 0x00, 0x01, 0x00, 0x00, 0x00,
-    ];
+    fn listing() -> Vec<i32> {
+        narrow(listing_numbers())
+    }
 
     /// M = 2, Q = 1, N = 1: R, y and two priors.
-    const BENCH: [i32; 15] = [2, 1, 1, 10, 5, 1, 1, 0, 1, 1, 0, -1, 0, 0, 0];
+    fn bench() -> Vec<i32> {
+        narrow(two_streams(10, 5))
+    }
 
     /// What is returned for the bench vector with another number at some places; a refusal alters nothing.
     fn with(changes: &[(usize, i32)]) -> i64 {
-        let mut numbers = BENCH;
+        let mut numbers = bench();
         for &(at, number) in changes {
             numbers[at] = number;
         }
@@ -153,34 +159,16 @@ mod tests {
 
     #[test]
     fn the_listing_record_both_ways() {
-        let mut record = [0xA5; 31];
-        assert_eq!(write(&LISTING, &mut record), 29);
-        assert_eq!(record[..29], LISTING_RECORD);
-        assert_eq!(record[29..], [0xA5; 2]);
-        let mut numbers = [77; 27];
-        assert_eq!(read(&LISTING_RECORD, &mut numbers), 25);
-        assert_eq!(numbers[..25], LISTING);
-        assert_eq!(numbers[25..], [77; 2]);
-    }
-
-    #[test]
-    fn what_is_lent_may_just_do() {
-        let mut record = [0xA5; 29];
-        assert_eq!(write(&LISTING, &mut record), 29);
-        assert_eq!(record, LISTING_RECORD);
-        let mut numbers = [77; 25];
-        assert_eq!(read(&LISTING_RECORD, &mut numbers), 25);
-        assert_eq!(numbers, LISTING);
+        for to_spare in [0, 2] {
+            expect(write, &listing(), 29 + to_spare, Ok(&LISTING_RECORD));
+            expect(read, &LISTING_RECORD, 25 + to_spare, Ok(&listing()));
+        }
     }
 
     #[test]
     fn one_entry_short_is_14_and_alters_nothing() {
-        let mut record = [0xA5; 28];
-        assert_eq!(write(&LISTING, &mut record), -14);
-        assert_eq!(record, [0xA5; 28]);
-        let mut numbers = [77; 24];
-        assert_eq!(read(&LISTING_RECORD, &mut numbers), -14);
-        assert_eq!(numbers, [77; 24]);
+        expect(write, &listing(), 28, Err(14));
+        expect(read, &LISTING_RECORD, 24, Err(14));
     }
 
     /// A place of the bench list, both ends of its range, and the refusal beyond them. M and Q have tests of their own.
@@ -248,8 +236,8 @@ mod tests {
 
     #[test]
     fn a_list_that_ends_early() {
-        for length in 0..BENCH.len() {
-            assert_eq!(verdict(&BENCH[..length]), -2, "{length}");
+        for length in 0..bench().len() {
+            assert_eq!(verdict(&bench()[..length]), -2, "{length}");
         }
         assert_eq!(verdict(&[2, 1, 1, 10, 1]), -8);
         assert_eq!(verdict(&[2, 1, 1, -1]), -7);
@@ -259,20 +247,18 @@ mod tests {
     #[test]
     fn a_list_that_goes_on() {
         for more in [&[0][..], &[i32::MIN], &[i32::MAX, 0, 0]] {
-            assert_eq!(verdict(&[&BENCH, more].concat()), -13);
+            assert_eq!(verdict(&[&bench(), more].concat()), -13);
         }
-        let mut last_prior_beyond = [BENCH.as_slice(), &[0]].concat();
-        last_prior_beyond[14] = 1_048_576;
-        assert_eq!(verdict(&last_prior_beyond), -12);
+        assert_eq!(verdict(&[&bench()[..14], &[1_048_576, 0]].concat()), -12);
     }
 
     #[test]
     fn the_buffer_is_asked_last() {
         let with_no_buffer = |numbers: &[i32]| write(numbers, &mut []);
-        assert_eq!(with_no_buffer(&BENCH), -14);
-        assert_eq!(with_no_buffer(&BENCH[..14]), -2);
-        assert_eq!(with_no_buffer(&[&BENCH[..14], &[i32::MAX]].concat()), -12);
-        assert_eq!(with_no_buffer(&[BENCH.as_slice(), &[0]].concat()), -13);
+        assert_eq!(with_no_buffer(&bench()), -14);
+        assert_eq!(with_no_buffer(&bench()[..14]), -2);
+        assert_eq!(with_no_buffer(&[&bench()[..14], &[i32::MAX]].concat()), -12);
+        assert_eq!(with_no_buffer(&[bench().as_slice(), &[0]].concat()), -13);
     }
 
     #[test]
@@ -287,8 +273,8 @@ mod tests {
     #[test]
     fn bytes_are_made_up_to_the_fault() {
         assert_eq!(made_so_far(&[]), OPENING);
-        assert_eq!(made_so_far(&LISTING), LISTING_RECORD);
-        assert_eq!(made_so_far(&[&LISTING[..20], &[131_072, 0]].concat()), LISTING_RECORD[..24]);
-        assert_eq!(made_so_far(&[4, 8, 1]), LISTING_RECORD[..4].iter().copied().chain([4]).collect::<Vec<_>>());
+        assert_eq!(made_so_far(&listing()), LISTING_RECORD);
+        assert_eq!(made_so_far(&[&listing()[..20], &[131_072, 0]].concat()), LISTING_RECORD[..24]);
+        assert_eq!(made_so_far(&[4, 8, 1]), [OPENING.as_slice(), &[4]].concat());
     }
 }

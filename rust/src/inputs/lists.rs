@@ -1,12 +1,12 @@
-//! Lists of numbers that one writer of block records is compared with another on, by kind; the same in every run. Every M, Q and N,
-//! each number at the ends of its range and beyond them, lists cut at every length and lists that go on, two faults at once, and
-//! noise.
+//! Lists of numbers that one writer of block records is compared with another on, in groups: every M, Q and N, each number at the ends
+//! of its range and beyond them, lists cut at every length and lists that go on, two faults at once, and noise.
 
-use crate::block::SHAPES;
-use crate::cases::{numbers_by_chance, range};
-use crate::chance::Chance;
-use crate::record::{places, Place};
-use crate::writer::made_so_far;
+use super::chance::Chance;
+use super::numbers::{numbers_by, numbers_by_chance, range};
+use super::{lengths, with, Group};
+use crate::format::block::SHAPES;
+use crate::format::encoding::{places, Place};
+use crate::format::writer::{made_so_far, narrow};
 
 /// Numbers to try wherever a number can stand, beside the ends of its range: as far off as can be, around 0, the last number of
 /// each length, plain and folded, with the next, and numbers that are 4 in their last 8, 16 or 28 bits.
@@ -52,17 +52,7 @@ impl List {
     }
 }
 
-/// Lent memory to try: as many entries as there are to write, one fewer, some to spare, and none.
-pub fn lengths(entries: usize) -> [usize; 4] {
-    [entries, entries.saturating_sub(1), entries + 40, 0]
-}
-
 // Lists that others start from.
-
-/// Numbers as they stand in a list.
-fn narrow(numbers: impl IntoIterator<Item = i64>) -> Vec<i32> {
-    numbers.into_iter().map(|number| i32::try_from(number).expect("a list's numbers have 32 bits")).collect()
-}
 
 /// A list of each M and Q with this N, all other numbers in range.
 fn right(vectors: i64) -> impl Iterator<Item = Vec<i32>> {
@@ -73,16 +63,10 @@ fn right(vectors: i64) -> impl Iterator<Item = Vec<i32>> {
 /// A list whose numbers, but for M, Q and N, are chosen by their range's two ends.
 fn by_range(streams: usize, bits: usize, vectors: i64, mut choose: impl FnMut(i64, i64) -> i64) -> Vec<i32> {
     let (streams, bits) = (streams as i64, bits as i64);
-    let number = |place: Place| match place {
-        Place::Streams => streams,
-        Place::Bits => bits,
-        Place::Vectors => vectors,
-        other => {
-            let (least, greatest) = range(other, streams);
-            choose(least, greatest)
-        }
-    };
-    narrow(places(streams, bits, vectors).into_iter().map(number))
+    narrow(numbers_by(streams, bits, vectors, |place| {
+        let (least, greatest) = range(place, streams);
+        choose(least, greatest)
+    }))
 }
 
 /// The places of a list whose M, Q and N are right.
@@ -100,13 +84,6 @@ fn next_to_range(numbers: &[i32], place: Place) -> [i32; 2] {
 fn beyond(chance: &mut Chance, numbers: &[i32], place: Place) -> i32 {
     let [below, above] = next_to_range(numbers, place);
     chance.one_of(&[below, above, i32::MIN, i32::MAX])
-}
-
-/// The same list with another number at a place.
-fn with(numbers: &[i32], at: usize, number: i32) -> Vec<i32> {
-    let mut other = numbers.to_vec();
-    other[at] = number;
-    other
 }
 
 // The groups.
@@ -168,8 +145,7 @@ pub fn each_number_in_turn() -> impl Iterator<Item = List> {
 /// bits.
 pub fn negative_numbers() -> impl Iterator<Item = List> {
     right(2).flat_map(|numbers| {
-        let has_no_sign = |place: Place| !matches!(place, Place::Right | Place::Received | Place::Prior);
-        let turns = places_of(&numbers).into_iter().enumerate().filter(move |&(_, place)| has_no_sign(place));
+        let turns = places_of(&numbers).into_iter().enumerate().filter(|(_, place)| !place.is_folded());
         turns.flat_map(move |(at, _)| {
             let number = numbers[at];
             let negative = [-number, number.wrapping_add(i32::MIN), number | -65_536, number | -256];
@@ -276,25 +252,40 @@ pub fn cut_at_each_length() -> impl Iterator<Item = List> {
     lists.flat_map(|numbers| (0..=numbers.len()).map(move |length| List::of(numbers[..length].to_vec())))
 }
 
-/// All of these, the shorter ones first.
+/// The groups, the shorter lists first.
+pub fn groups() -> Vec<Group<List>> {
+    vec![
+        Group::of("pairs of sizes", (2_210, 57), pairs_of_sizes()),
+        Group::of("shares", (342, 144), shares()),
+        Group::of("each number in turn", (23_478, 13_708), each_number_in_turn()),
+        Group::of("negative numbers", (748, 3), negative_numbers()),
+        Group::of("two faults", (7_800, 0), two_faults()),
+        Group::of("a fault and an end", (5_608, 0), a_fault_and_an_end()),
+        Group::of("noise", (12_000, 1_840), noise()),
+        Group::of("too long", (627, 0), too_long()),
+        Group::of("whole", (1_216, 1_216), whole()),
+        Group::of("ends of ranges", (152, 152), ends()),
+        Group::of("counts of vectors", (1_254, 76), counts_of_vectors()),
+        Group::of("cut at each length", (4_518, 39), cut_at_each_length()),
+    ]
+}
+
+/// The lists of all groups.
 pub fn all() -> impl Iterator<Item = List> {
-    let sizes = pairs_of_sizes().chain(shares());
-    let numbers = each_number_in_turn().chain(negative_numbers()).chain(two_faults()).chain(a_fault_and_an_end());
-    let longer = noise().chain(too_long()).chain(whole()).chain(ends()).chain(counts_of_vectors()).chain(cut_at_each_length());
-    sizes.chain(numbers).chain(longer)
+    groups().into_iter().flat_map(|group| group.inputs)
 }
 
 #[cfg(test)]
 mod tests {
     use super::*;
-    use crate::cases::row;
-    use crate::record::Refusal;
-    use crate::writer::write;
+    use crate::format::record::{Refusal, MOST_BYTES};
+    use crate::format::writer::write;
+    use crate::inputs::numbers::row;
     use std::collections::BTreeMap;
 
     /// What a list is answered with, the buffer being long enough: a refusal's number, or 0 for acceptance.
     fn answer(list: &List) -> Refusal {
-        let returned = write(&list.numbers, &mut [0; 8_207]);
+        let returned = write(&list.numbers, &mut [0; MOST_BYTES]);
         u32::try_from(-returned).unwrap_or(0)
     }
 
@@ -382,6 +373,6 @@ mod tests {
             assert_eq!(write(&list.numbers, &mut record[1..]), -14);
             longest = longest.max(list.room);
         }
-        assert_eq!(longest, 8_207);
+        assert_eq!(longest, MOST_BYTES);
     }
 }

@@ -3,11 +3,11 @@
 //! Amplitudes are computed by the Gray rule here and prior costs are taken bit by bit over the label, so that only `Block` is
 //! shared with the detectors.
 
-use crate::block::{Block, Complex, Vector};
+use crate::format::block::{Block, Complex, Vector};
 
 /// The label and soft values over all labels.
 pub fn answer(block: &Block, vector: &Vector) -> (usize, Vec<i64>) {
-    let label_bits = block.streams * block.bits;
+    let label_bits = block.label_bits();
     let metrics: Vec<i64> = (0..1 << label_bits).map(|label| metric(block, vector, label)).collect();
     let least_of_all = *metrics.iter().min().expect("there are labels");
     let label = metrics.iter().position(|&metric| metric == least_of_all).expect("the least is one of them");
@@ -23,7 +23,7 @@ pub fn answer(block: &Block, vector: &Vector) -> (usize, Vec<i64>) {
 
 /// |y - R s| squared, and what the priors add.
 pub fn metric(block: &Block, vector: &Vector, label: usize) -> i64 {
-    let label_bits = block.streams * block.bits;
+    let label_bits = block.label_bits();
     let points: Vec<Complex> = (0..block.streams)
         .map(|stream| point(block.bits, label >> ((block.streams - 1 - stream) * block.bits) & ((1 << block.bits) - 1)))
         .collect();

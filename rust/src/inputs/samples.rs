@@ -1,0 +1,108 @@
+//! The sample records of samples/, by their whole numbers or by their bytes, and a record for each refusal.
+
+use super::cases::longest_record;
+use super::chance::Chance;
+use super::channel::Plan;
+use super::readings::{listing_numbers, LISTING_RECORD};
+use super::with;
+use crate::format::encoding::{encode, Numbers};
+use crate::format::record::Refusal;
+use crate::format::reply;
+
+/// The names of the samples that are made here of numbers, and these.
+pub fn all() -> [(&'static str, Numbers); 9] {
+    let sent = |seed: u64, plan: Plan| plan.block(&mut Chance(seed)).numbers();
+    [
+        ("example", listing_numbers()),
+        // Six vectors in strong noise, with an allowance that some of them use up.
+        ("stopped", sent(21, Plan { streams: 4, bits: 4, vectors: 6, clip: 8.0, share: 40, noise: 0.9, prior: 0.0 })),
+        // Two streams with priors of both signs, most of them right and some wrong.
+        ("priors", sent(22, Plan { streams: 2, bits: 4, vectors: 4, clip: 8.0, share: 200, noise: 0.9, prior: 1.0 })),
+        ("signed-priors", signed_priors()),
+        // The largest block: four streams of 64 points, 64 vectors.
+        ("full", sent(23, Plan { streams: 4, bits: 6, vectors: 64, clip: 8.0, share: 3_000, noise: 0.5, prior: 2.0 })),
+        // The same sizes in strong noise, with an allowance that is used up before the last vectors.
+        ("full-stopped", sent(6, Plan { streams: 4, bits: 6, vectors: 64, clip: 2.0, share: 60, noise: 0.9, prior: 1.0 })),
+        // Three streams of 256 points with priors, and an allowance that the last vectors use up.
+        ("wide", sent(24, Plan { streams: 3, bits: 8, vectors: 6, clip: 8.0, share: 60, noise: 0.9, prior: 0.5 })),
+        // The example, but the last prior is above its range.
+        ("refused", with(&listing_numbers(), 24, 1_048_576)),
+        // Four streams of 256 points, where three are the most.
+        ("refused-wide", sent(25, Plan { streams: 4, bits: 8, vectors: 1, clip: 8.0, share: 60, noise: 0.9, prior: 0.0 })),
+    ]
+}
+
+/// The names of the samples that were written by hand, as a text: samples/NAME.numbers is where their numbers come from.
+pub const WRITTEN: [&str; 3] = ["bench", "tie", "points"];
+
+/// The names of the samples that no list of numbers makes, and their bytes; the last has as many as the listing program reads.
+pub fn broken() -> [(&'static str, Vec<u8>); 5] {
+    [
+        ("empty", vec![]),
+        ("other-opening", [&reply::OPENING, &LISTING_RECORD[4..]].concat()),
+        ("cut", LISTING_RECORD[..28].to_vec()),
+        ("trailing", [LISTING_RECORD.as_slice(), &[0x00]].concat()),
+        ("too-long", [longest_record(), vec![0x00]].concat()),
+    ]
+}
+
+/// One vector of two streams of four points, under priors of either sign, weak and strong, and none.
+fn signed_priors() -> Numbers {
+    let vector = [3, 1, -2, 4, 5, -7, -3, 2];
+    let priors =
+        [[0, 0, 0, 0], [6, -4, 0, -1], [-6, 4, 0, 1], [1, 1, 1, 1], [-1, -1, -1, -1], [900, -900, 900, 0], [-900, 900, 0, 900]];
+    let vectors = priors.iter().flat_map(|priors| [vector.as_slice(), priors].concat());
+    [2, 2, 7, 40, 9].into_iter().chain(vectors).collect()
+}
+
+/// A record for each refusal that a record can meet, by number: the example with one thing wrong, for 15 with M and Q exchanged.
+pub fn refusals() -> [(Refusal, Vec<u8>); 14] {
+    let with_byte = |at: usize, byte: u8| with(&LISTING_RECORD, at, byte);
+    let with_number = |at: usize, number: i64| encode(&with(&listing_numbers(), at, number));
+    let with_bytes = |at: usize, bytes: &[u8], then: usize| [&LISTING_RECORD[..at], bytes, &LISTING_RECORD[then..]].concat();
+    [
+        (1, with_byte(3, 0x30)),
+        (2, LISTING_RECORD[..20].to_vec()),
+        (3, with_bytes(7, &[0x8A, 0x00], 8)),
+        (4, with_byte(4, 5)),
+        (5, with_byte(5, 3)),
+        (6, with_byte(6, 65)),
+        (7, with_number(3, 16_777_216)),
+        (8, with_byte(8, 1)),
+        (9, with_byte(9, 0)),
+        (10, with_number(6, 2_048)),
+        (11, with_number(9, -131_072)),
+        (12, with_number(13, -1_048_576)),
+        (13, with_bytes(29, &[0x00], 29)),
+        (15, with_bytes(4, &[4, 8], 6)),
+    ]
+}
+
+#[cfg(test)]
+mod tests {
+    use super::*;
+    use crate::format::record::read;
+
+    #[test]
+    fn each_refusal_has_its_record() {
+        for (refusal, record) in refusals() {
+            assert_eq!(read(&record), Err(refusal));
+        }
+    }
+
+    #[test]
+    fn the_samples_that_are_refused() {
+        let records = all().map(|(name, numbers)| (name, encode(&numbers)));
+        for (name, record) in records.into_iter().chain(broken()) {
+            let refusal = match name {
+                "empty" | "other-opening" => Some(1),
+                "cut" => Some(2),
+                "refused" => Some(12),
+                "trailing" | "too-long" => Some(13),
+                "refused-wide" => Some(15),
+                _ => None,
+            };
+            assert_eq!(read(&record).err(), refusal, "{name}");
+        }
+    }
+}
