@@ -10,7 +10,7 @@
  * the two memories do not overlap, and nobody else writes to either during the call.
  *
  * Calls keep no state, allocate nothing and may be made from any number of threads.
- * Stack, measured: detect 28 KiB, read 13 KiB, write below 1 KiB; 64 KiB are enough.
+ * Stack, measured: detect 27 KiB, read 13 KiB, write below 1 KiB; 64 KiB are enough.
  * geckoneedle_text.h has the refusals in words, and a decoder for replies.
  */
 #ifndef GECKONEEDLE_H

@@ -49,7 +49,7 @@ summary() {
     echo "| shape | proved: instructions a node | Rust | ratio | proved: µs a vector | Rust | ratio | mean ratio |"
     echo "|---|---|---|---|---|---|---|---|"
     awk -F'|' '
-        /all of/ { gsub(/\*\*all of |\*\*/, "", $2); name = $2; gsub(/^ +| +$/, "", name) }
+        /all of/ { name = $2; gsub(/\*\*all of |\*\*/, "", name); gsub(/^ +| +$/, "", name) }
         FILENAME ~ /instructions/ && /all of/ { order[++n] = name; instructions[name] = $4 "|" $5 "|" $6 }
         FILENAME ~ /times/ && /all of/ { times[name] = $5 "|" $6 "|" $9 }
         FILENAME ~ /times/ && /^- M/ { split(substr($0, 3), part, ": "); mean[part[1]] = part[2] }

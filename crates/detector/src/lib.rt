@@ -40,7 +40,7 @@ struct Step {
 // The most room that a reply asks for.
 pub const MOST_REPLY: usize = 6727;
 
-const OPENING: [u8; 4] = [0x43, 0x42, 0x53, 0x31];
+const REPLY_OPENING: [u8; 4] = [0x43, 0x42, 0x53, 0x31];
 
 // The header of the lent list.
 fn header_of(numbers: &[i32]) -> Header
@@ -61,7 +61,7 @@ fn write_head(reply: &mut [u8], m: usize, q: usize, n: usize) -> usize
     requires { ⌜ (7 ≤ length (now reply)) × (m < 128) × (q < 128) × (n < 128) ⌝ }
     ensures { λ r. ⌜ (r ≡ 7) × Wrote (now (reply .entry)) 0 (replyOpening ++ written (m ∷ q ∷ n ∷ [])) (now (reply .exit)) r ⌝ }
 {
-    wire::write_opening(reply, OPENING);
+    wire::write_opening(reply, REPLY_OPENING);
     let second = wire::write_number(reply, 4, m as u32);
     let third = wire::write_number(reply, second, q as u32);
     wire::write_number(reply, third, n as u32)
