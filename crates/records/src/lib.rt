@@ -142,7 +142,7 @@ fn write_all(numbers: &[i32], record: &mut [u8])
     requires { ⌜ WriteAsked (now numbers) (length (now «record»)) ⌝ }
     ensures { λ _. ⌜ now («record» .exit) ≡ put (now («record» .entry)) 0 (recordOf (now (numbers .entry))) ⌝ }
 {
-    wire::write_opening(record, block::RECORD_OPENING);
+    wire::write_opening(record, block::OPENING);
     let count = numbers.len();
     let mut at = 4;
     let mut i = 0;
