@@ -6,7 +6,7 @@ use lib.IntN.{ℤ, pos, negsuc}
 use Rattle.model.specs.Constellation.{Complex}
 use Rattle.model.specs.Metric.{Row}
 use Rattle.model.specs.Soft.{upFrom}
-use Rattle.wire.specs.Reading.{numberAt, groups, above, lastGroup}
+use Rattle.wire.specs.Reading.{numberAt, groups, aboveDigits, lastGroup}
 use Rattle.wire.specs.Folding.{unfolded}
 use Rattle.block.specs.Reading.{byNumber, numbersAt, kindsOf, runsOf, matrixRuns, vectorsAt, sizedAt, recordAt, startsWith, readRecord}
 use Rattle.block.specs.Contents.{complexes, rowsFrom, rowsOf, blockOf}
@@ -31,7 +31,7 @@ rows =
 -- The listing record says this block
 pub listing-block : blockOf (readRecord listingRecord .numbers)
     ≡ record { streams = 2; width = 1; clip = 10; share = 3; vectors = rows ∷ rows ∷ [] }
-unfolding blockOf readRecord recordAt sizedAt vectorsAt numbersAt kindsOf runsOf matrixRuns byNumber numberAt groups above
+unfolding blockOf readRecord recordAt sizedAt vectorsAt numbersAt kindsOf runsOf matrixRuns byNumber numberAt groups aboveDigits
     lastGroup unfolded startsWith rowsOf rowsFrom complexes upFrom
 listing-block = refl
 

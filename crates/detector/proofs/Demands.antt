@@ -27,7 +27,7 @@ use Rattle.block.proofs.Conditions.{turned-back, whole-read, read-whole, whole-
 use Rattle.detector.specs.Reply.{replyOf, replyRoom}
 use Rattle.block.specs.Filling.{Filling, refused, filled, returned, bufferAfter}
 use Rattle.block.specs.Table.{refusalNumber}
-use Rattle.detector.specs.Outcome.{byRoom, byRead, outcome}
+use Rattle.detector.specs.Outcome.{byRoom, byReading, outcome}
 use Rattle.detector.specs.Demand.{Condition, Accepted, nthAnswer, EachComplete, Met}
 use Rattle.detector.proofs.Outcomes.{room-short}
 use Rattle.detector.proofs.Replies.{reply-room}
@@ -58,14 +58,14 @@ module _ (bytes : List ℕ) (room : ℕ) where
   -- A record that is turned back is refused
   turned-outcome : (r : Refusal) → readWhole bytes .read ≡ Refused r → outcome bytes room ≡ refused r
   unfolding outcome
-  turned-outcome r e = ap (byRead room (readWhole bytes .numbers)) e
+  turned-outcome r e = ap (byReading room (readWhole bytes .numbers)) e
 
   -- Of a whole record the buffer decides
   pub whole-outcome : (w : Whole bytes (length bytes)) → outcome bytes room ≡ byRoom room (blockOf (w .numbers))
   unfolding outcome readWhole
   whole-outcome w =
       let is = read-whole bytes w in
-      ap (byRead room (readRecord bytes .numbers)) (is .0) ∙ ap (λ (numbers : List ℤ). byRoom room (blockOf numbers)) (is .1)
+      ap (byReading room (readRecord bytes .numbers)) (is .0) ∙ ap (λ (numbers : List ℤ). byRoom room (blockOf numbers)) (is .1)
 
   -- Every record is one or the other
   one-of-two : ((r : Refusal) × (readWhole bytes .read ≡ Refused r)) ⊎ Whole bytes (length bytes)

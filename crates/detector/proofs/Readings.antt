@@ -8,7 +8,7 @@ use Rattle.model.specs.Order.{earlier}
 use Rattle.model.specs.Soft.{leastOf, those, pick, upFrom}
 use Rattle.model.specs.Walk.{passes, insert, sort, children, walkBelow}
 use Rattle.model.specs.Block.{answer, answersFrom}
-use Rattle.wire.specs.Reading.{numberAt, groups, above, lastGroup}
+use Rattle.wire.specs.Reading.{numberAt, groups, aboveDigits, lastGroup}
 use Rattle.wire.specs.Writing.{groupsOf, bytesOf}
 use Rattle.wire.specs.Folding.{folded, unfolded}
 use Rattle.block.specs.Reading.{byNumber, numbersAt, kindsOf, runsOf, matrixRuns, vectorsAt, sizedAt, recordAt, startsWith}
@@ -24,7 +24,7 @@ pub reply-reading : outcome listingRecord 41
     ≡ filled
     (0x43 ∷ 0x42 ∷ 0x53 ∷ 0x31 ∷ 0x02 ∷ 0x01 ∷ 0x02 ∷ 0x01 ∷ 0x04 ∷ 0x02 ∷ 0x0F ∷ 0x14 ∷ 0x01 ∷ 0x02 ∷ 0x02 ∷ 0x13 ∷ 0x14 ∷ [])
 unfolding outcome byRoom replyRoom replyOf answersNumbers written bytesOf groupsOf folded readWhole readRecord recordAt sizedAt vectorsAt
-    numbersAt kindsOf runsOf matrixRuns byNumber numberAt groups above lastGroup unfolded startsWith blockOf rowsOf rowsFrom complexes
+    numbersAt kindsOf runsOf matrixRuns byNumber numberAt groups aboveDigits lastGroup unfolded startsWith blockOf rowsOf rowsFrom complexes
     upFrom number symbols amplitude point dot residual priorCost increment metric allPriors earlier leastOf those pick passes insert sort
     children walkBelow answer answersFrom
 reply-reading = refl

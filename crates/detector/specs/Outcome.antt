@@ -19,10 +19,10 @@ use Rattle.detector.specs.Reply.{replyOf, replyRoom}
 unfoldable pub byRoom : ℕ → Block → Filling ℕ
 byRoom room b = cond (ltb room (replyRoom b)) (refused Buffer) (filled (replyOf b))
 
-abbrev pub byRead : ℕ → List ℤ → Read → Filling ℕ
-byRead room numbers (Ended at) = byRoom room (blockOf numbers)
-byRead room numbers (Refused r) = refused r
+abbrev pub byReading : ℕ → List ℤ → Read → Filling ℕ
+byReading room numbers (Ended at) = byRoom room (blockOf numbers)
+byReading room numbers (Refused r) = refused r
 
 -- Of any bytes, with a buffer of `room` bytes
 unfoldable pub outcome : List ℕ → ℕ → Filling ℕ
-outcome bytes room = byRead room (readWhole bytes .numbers) (readWhole bytes .read)
+outcome bytes room = byReading room (readWhole bytes .numbers) (readWhole bytes .read)

@@ -16,15 +16,15 @@ pub record Plain : Type 0 where
   pub numbers : List ℕ
   pub after : ℕ
 
-abbrev pub byNumber : ℕ → (ℕ → Plain) → Number → Plain
-byNumber at further (Value n next) = record { numbers = n ∷ further next .numbers; after = further next .after }
-byNumber at further Short = record { numbers = []; after = at }
-byNumber at further Malformed = record { numbers = []; after = at }
+abbrev pub byPlain : ℕ → (ℕ → Plain) → Number → Plain
+byPlain at further (Value n next) = record { numbers = n ∷ further next .numbers; after = further next .after }
+byPlain at further Short = record { numbers = []; after = at }
+byPlain at further Malformed = record { numbers = []; after = at }
 
 -- So many numbers from a place on; fewer, where one of them cannot be read
 unfoldable pub plainAt : ℕ → List ℕ → ℕ → Plain
 plainAt zero bytes at = record { numbers = []; after = at }
-plainAt (suc n) bytes at = byNumber at (plainAt n bytes) (numberAt bytes at)
+plainAt (suc n) bytes at = byPlain at (plainAt n bytes) (numberAt bytes at)
 
 -- An answer by its numbers: mark, nodes, label, folded soft values
 unfoldable pub answerFrom : List ℕ → Answer

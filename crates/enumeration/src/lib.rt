@@ -86,7 +86,7 @@ fn fill_row_columns(rows: usize, column: u64, at: usize, keys: &mut [u64])
 }
 
 // The same, with the rows of 64-QAM and 16-QAM made known to the compiler.
-fn fill_columns(rows: usize, column: u64, at: usize, keys: &mut [u64])
+fn fill_least_columns(rows: usize, column: u64, at: usize, keys: &mut [u64])
     requires { ⌜ (rows ≤ span) × (at + rows ≤ length (now keys)) ⌝ }
     ensures { λ _. ⌜ now (keys .exit) ≡ filledFrom at (sameColumn column) rows (now (keys .entry)) ⌝ }
 {
@@ -111,7 +111,7 @@ pub fn fill(q: usize, partial: u64, axes: &[u64; AXES], keys: &mut [u64])
     let base = partial + axes[AXES / 2 + column];
     let rows: usize = 1 << (q - q / 2);
     fill_least(rows, base, axes, 1 << q, keys);
-    fill_columns(rows, column as u64, (1 << q) + rows, keys);
+    fill_least_columns(rows, column as u64, (1 << q) + rows, keys);
 }
 
 // The row of the first of the smallest keys, and that key: of the rows' smallest the first one of the smallest.

@@ -41,7 +41,7 @@ fn double(limits: &mut [u64], to: usize, n: usize, limit: u64)
 }
 
 // The entries of an axis of w bits, whose limits stand from a place on: for each label the widest limit of the bits that are 1 in it.
-fn fill_entries(limits: &mut [u64], at: usize, w: usize, to: usize)
+fn fill_entry_limits(limits: &mut [u64], at: usize, w: usize, to: usize)
     requires { ⌜ (w ≤ axisWidth) × (at + w ≤ mostBits) × (mostBits ≤ to) × (to + 2 ^ w ≤ length (now limits)) ⌝ }
     ensures { λ _. ⌜ AxisFilled (now (limits .entry)) (now (limits .exit)) at w to w ⌝ }
 {
@@ -55,17 +55,17 @@ fn fill_entries(limits: &mut [u64], at: usize, w: usize, to: usize)
 }
 
 // The same; an axis of 64-QAM has three bits and one of 16-QAM two, which the compiler is told here.
-fn fill_axis(limits: &mut [u64], at: usize, w: usize, to: usize)
+fn fill_axis_limits(limits: &mut [u64], at: usize, w: usize, to: usize)
     requires { ⌜ (w ≤ axisWidth) × (at + w ≤ mostBits) × (mostBits ≤ to) × (to + 2 ^ w ≤ length (now limits)) ⌝ }
     ensures { λ _. ⌜ AxisFilled (now (limits .entry)) (now (limits .exit)) at w to w ⌝ }
 {
     if w == 3 {
-        return fill_entries(limits, at, 3, to);
+        return fill_entry_limits(limits, at, 3, to);
     }
     if w == 2 {
-        return fill_entries(limits, at, 2, to);
+        return fill_entry_limits(limits, at, 2, to);
     }
-    fill_entries(limits, at, w, to)
+    fill_entry_limits(limits, at, w, to)
 }
 
 // The widest limit of those of stream j's bits that are 1 in a symbol.
@@ -90,8 +90,8 @@ fn fill_axes(q: usize, limits: &mut [u64], j: usize, changed: usize)
     }
     let w = q - q / 2;
     let at = ENTRIES + j * (2 * SPAN);
-    fill_axis(limits, j * q, w, at);
-    fill_axis(limits, j * q + w, q / 2, at + SPAN);
+    fill_axis_limits(limits, j * q, w, at);
+    fill_axis_limits(limits, j * q + w, q / 2, at + SPAN);
 }
 
 // What the limits of stream j's bits give: the entries of its two axes, and the widest limit of the streams up to it.

@@ -110,13 +110,13 @@ blockText b =
 unfoldable pub refusedLine : ℕ → List ℕ
 refusedLine n = field refusedWord n ++ lineEnd
 
-abbrev pub byRead : List ℤ → Read → List ℕ
-byRead numbers (Ended at) = blockText (blockOf numbers)
-byRead numbers (Refused r) = refusedLine (refusalNumber r)
+abbrev pub textRead : List ℤ → Read → List ℕ
+textRead numbers (Ended at) = blockText (blockOf numbers)
+textRead numbers (Refused r) = refusedLine (refusalNumber r)
 
 -- What is printed of any bytes
 unfoldable pub listingOf : List ℕ → List ℕ
-listingOf bytes = byRead (readWhole bytes .numbers) (readWhole bytes .read)
+listingOf bytes = textRead (readWhole bytes .numbers) (readWhole bytes .read)
 
 -- The most bytes of a vector's line, and of a listing: a first line of at most 87, 64 vectors, a last line of at most 17
 abbrev pub mostLine : ℕ

@@ -24,7 +24,7 @@ use Rattle.model.proofs.Least.{AtMost, Lex, pick-in, pick-least, least-
 use Rattle.model.proofs.Tree.{walk-once}
 use Rattle.model.proofs.Complete.{leaves-of, exact, pruning-exact}
 use Rattle.model.proofs.Lead.{walk-at-least, some-leaf}
-use Rattle.model.proofs.Search.{outcome-is}
+use Rattle.model.proofs.Search.{search-answers}
 
 at-replicate : (x : Bool) (n i : ℕ) → i < n → bitAt i (replicate n x) ≡ x
 at-replicate x zero i h = absurd (omega arith)
@@ -149,7 +149,7 @@ module _ (v : Vector) (q : 0 < v .width) (some-row : 0 < length (v .rows)) where
     stopped = (λ t. ltb-true n (length (walk v)) t, λ k. lt-ltb n (length (walk v)) k);
     count = omega (arith, count-is v n);
     least = omega (arith, count-is v n, walk-at-least v q);
-    tally = outcome-is v q n;
+    tally = search-answers v q n;
     once = Nodup·of-append-left (drop n (walk v)) (subst List·Nodup (sym (take-append-drop n (walk v))) (walk-once v q));
     some = some-leaf v q some-row n (omega arith);
     walked = refl;

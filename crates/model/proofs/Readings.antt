@@ -12,7 +12,7 @@ use Rattle.model.specs.Order.{earlier}
 use Rattle.model.specs.Soft.{finite, leastOf, those, pick, upFrom, softValue}
 use Rattle.model.specs.Walk.{passes, insert, sort, children, walkBelow}
 use Rattle.model.specs.Block.{Block, vectorOf, Answer, answer, allowance, answersFrom, answers}
-use Rattle.model.specs.Search.{start, enter, searchBelow, search, outcome}
+use Rattle.model.specs.Search.{start, enter, searchBelow, search, searchAnswer}
 
 abbrev pub minus : ℕ → ℤ
 minus n = negℤ (pos n)
@@ -215,10 +215,10 @@ computed = refl
 -- The first vector of a block, by the search as a program keeps it
 abbrev pub firstOf : Block → List (List Row) → List Answer
 firstOf b [] = []
-firstOf b (rows ∷ later) = outcome (vectorOf b rows) (search (vectorOf b rows) (allowance b 0 (length later))) ∷ []
+firstOf b (rows ∷ later) = searchAnswer (vectorOf b rows) (search (vectorOf b rows) (allowance b 0 (length later))) ∷ []
 
 unfoldable pub foundFirst : Reading → List Answer
-unfolding number symbols amplitude point dot residual priorCost increment metric allPriors earlier upFrom passes insert sort children start enter searchBelow outcome
+unfolding number symbols amplitude point dot residual priorCost increment metric allPriors earlier upFrom passes insert sort children start enter searchBelow searchAnswer
 foundFirst r = firstOf (r .given) (r .given .vectors)
 
 unfoldable pub statedFirst : Reading → List Answer

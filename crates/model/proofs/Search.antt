@@ -16,7 +16,7 @@ use Rattle.model.specs.Metric.{Row, Vector, metric, metricOf, labelBits,
 use Rattle.model.specs.Soft.{Least, infinite, finite, lesser, leastOf, those, hasBit, leastWith, pick, softValue, softAt, places}
 use Rattle.model.specs.Walk.{isLeaf, leaves, limit, isOpen, passes, passesAfter, children, Progress, withWalked, withCut, visit, walkBelow, walk}
 use Rattle.model.specs.Block.{answer}
-use Rattle.model.specs.Search.{Search, start, admits, bestAfter, updated, enter, attempt, searchBelow, search, valueAt, outcome}
+use Rattle.model.specs.Search.{Search, start, admits, bestAfter, updated, enter, attempt, searchBelow, search, valueAt, searchAnswer}
 use Rattle.model.proofs.Lists.{map-upFrom, any-upFrom, getD-places, those-snoc}
 use Rattle.model.proofs.Least.{pick-snoc, pick-metric, leastOf-snoc, least-snoc}
 use Rattle.model.proofs.Tree.{Extends, fold-extends, visit-extends}
@@ -158,9 +158,9 @@ module _ (v : Vector) (q : 0 < v .width) (n : ℕ) where
   search-is = below-first (reverse (v .rows)) [] [] (record { walked = []; cut = [] }) (omega arith)
 
   -- The search's outcome is the answer
-  pub outcome-is : outcome v (search v n) ≡ answer v n
-  unfolding outcome answer
-  outcome-is = ap (outcome v) search-is ∙ (λ j. record { stopped = ltb n (length (walk v)); count = length (take n (walk v)); result = record { label = number (pick v ls); soft = values j } })
+  pub search-answers : searchAnswer v (search v n) ≡ answer v n
+  unfolding searchAnswer answer
+  search-answers = ap (searchAnswer v) search-is ∙ (λ j. record { stopped = ltb n (length (walk v)); count = length (take n (walk v)); result = record { label = number (pick v ls); soft = values j } })
     where
       ls : List Bits
       ls = leaves v (take n (walk v))

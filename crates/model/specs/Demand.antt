@@ -12,7 +12,7 @@ use Rattle.model.specs.Metric.{Row, Vector, metricOf, labelBits, bitAt, 
 use Rattle.model.specs.Soft.{Least, infinite, finite, softValue, Report, report}
 use Rattle.model.specs.Walk.{walk, cutChildren, leaves}
 use Rattle.model.specs.Block.{Block, vectorOf, Answer, walkedNodes, walkedLabels, totalCount, _∈_}
-use Rattle.model.specs.Search.{search, outcome}
+use Rattle.model.specs.Search.{search, searchAnswer}
 
 -- a is "the least metric with that bit" x over all labels: one of them has it, none has less
 pub record LeastMetric (v : Vector) (i : ℕ) (x : Bool) (a : ℕ) : Type 0 where
@@ -90,7 +90,7 @@ pub record Result (b : Block) (spent after n : ℕ) (v : Vector) (a : Answer) : 
   pub count : a .count ≡ min (length (walk v)) n
   pub least : b .streams ≤ a .count
   -- mark, count, label and values are the search's own, the count its "tally .. made node by node"
-  pub tally : outcome v (search v n) ≡ a
+  pub tally : searchAnswer v (search v n) ≡ a
   -- "no node twice"
   pub once : List·Nodup (walkedNodes v n)
   -- "label and values over the walked labels alone", of which there is one

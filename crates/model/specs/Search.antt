@@ -77,5 +77,5 @@ search v n = searchBelow v n (reverse (v .rows)) [] [] (start v)
 abbrev pub valueAt : Vector → Search → ℕ → ℤ
 valueAt v s i = softValue (v .clip) (v .clip) (priorAt v i) (getD (s .ones) i infinite) (getD (s .zeros) i infinite)
 
-unfoldable pub outcome : Vector → Search → Answer
-outcome v s = record { stopped = s .stopped; count = s .count; result = record { label = number (s .best); soft = map (valueAt v s) (places v) } }
+unfoldable pub searchAnswer : Vector → Search → Answer
+searchAnswer v s = record { stopped = s .stopped; count = s .count; result = record { label = number (s .best); soft = map (valueAt v s) (places v) } }

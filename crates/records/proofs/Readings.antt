@@ -4,7 +4,7 @@ use Prim.Native.Nat.{ℕ}
 use mathlib.Core.Path.{_≡_, refl}
 use mathlib.Core.List.{List, [], _∷_, _++_, map}
 use lib.IntN.{ℤ, pos, negsuc}
-use Rattle.wire.specs.Reading.{numberAt, groups, above, lastGroup}
+use Rattle.wire.specs.Reading.{numberAt, groups, aboveDigits, lastGroup}
 use Rattle.wire.specs.Writing.{groupsOf, bytesOf}
 use Rattle.wire.specs.Folding.{folded, unfolded}
 use Rattle.block.specs.Reading.{byNumber, numbersAt, kindsOf, runsOf, matrixRuns, vectorsAt, sizedAt, recordAt, startsWith}
@@ -71,5 +71,5 @@ records =
 pub all-readings : (map (λ c. writing (c .given) (c .room)) lists ≡ map (λ c. c .comes) lists)
     × (map (λ c. reading (c .given) (c .room)) records ≡ map (λ c. c .comes) records)
 unfolding lists records writing checked bytesFor recordOf calledFor vectorKinds kindsOf runsOf matrixRuns folded bytesOf groupsOf fitted reading
-    readWhole readRecord recordAt sizedAt vectorsAt numbersAt byNumber numberAt groups above lastGroup unfolded startsWith
+    readWhole readRecord recordAt sizedAt vectorsAt numbersAt byNumber numberAt groups aboveDigits lastGroup unfolded startsWith
 all-readings = (refl, refl)

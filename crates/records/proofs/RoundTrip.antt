@@ -29,7 +29,7 @@ use Rattle.block.proofs.Flat.{called-only, accepted-opens, accepted-called}
 use Rattle.block.proofs.Conditions.{ends-last}
 use Rattle.block.proofs.Size.{accepted-size}
 use Rattle.block.proofs.CalledFor.{Grounded}
-use Rattle.records.specs.Writing.{Verdict, fine, turned, checked, plainOf, bytesFor, recordOf, byVerdict, writing, byRead, reading}
+use Rattle.records.specs.Writing.{Verdict, fine, turned, checked, plainOf, bytesFor, recordOf, byVerdict, writing, numbersRead, reading}
 use Rattle.records.proofs.Numbers.{written}
 use Rattle.records.proofs.Places.{all-grounded}
 use Rattle.records.proofs.Writing.{fine-allowed, allowed-fine, write-enough}
@@ -139,7 +139,7 @@ pub read-accepted : (bytes : List ℕ) (places : ℕ) (numbers : List ℤ) → r
 unfolding reading
 read-accepted bytes places numbers e = go (readWhole bytes .read) refl e
   where
-    go : (r : Read) → readWhole bytes .read ≡ r → byRead places (readWhole bytes .numbers) r ≡ filled numbers
+    go : (r : Read) → readWhole bytes .read ≡ r → numbersRead places (readWhole bytes .numbers) r ≡ filled numbers
         → (at : ℕ) × (readWhole bytes .read ≡ Ended at) × (readWhole bytes .numbers ≡ numbers)
     go (Ended at) f g = (at, f, fitted-is places (readWhole bytes .numbers) numbers g)
     go (Refused r) f g = absurd (not-both refl g)

@@ -52,10 +52,10 @@ unfoldable pub writing : List ℤ → ℕ → Filling ℕ
 writing numbers room = byVerdict room (recordOf numbers) (checked (calledFor numbers) numbers)
 
 -- Of a record that is read: its numbers, 14 where they are more than the lent list has places
-abbrev pub byRead : ℕ → List ℤ → Read → Filling ℤ
-byRead room numbers (Ended at) = fitted room numbers
-byRead room numbers (Refused r) = refused r
+abbrev pub numbersRead : ℕ → List ℤ → Read → Filling ℤ
+numbersRead room numbers (Ended at) = fitted room numbers
+numbersRead room numbers (Refused r) = refused r
 
 -- Reading any bytes into a lent list of `room` numbers: refused as a record is, then by 14
 unfoldable pub reading : List ℕ → ℕ → Filling ℤ
-reading bytes room = byRead room (readWhole bytes .numbers) (readWhole bytes .read)
+reading bytes room = numbersRead room (readWhole bytes .numbers) (readWhole bytes .read)

@@ -11,7 +11,7 @@ use Rattle.model.specs.Metric.{Vector}
 use Rattle.block.proofs.Places.{rows-count}
 use Rattle.model.specs.Block.{mostWidth}
 use Rattle.search_spec.specs.Arrays.{leastFirst}
-use Rattle.search_spec.specs.Program.{above, largestPartial, Taken, Kept, keptOf, passing, noted, chosen, keyOf, childOf, below, restOf}
+use Rattle.search_spec.specs.Program.{above, largestPartial, Taken, Kept, keptOf, passing, noted, chosen, keyOf, childIn, below, restOf}
 use Rattle.search_spec.proofs.Arrays.{Same, Held, held-least, held-set, held-same, same-part}
 use Rattle.search_spec.proofs.Bounds.{kept-falls, symbol-inside, key-bound, keys-held, partial-low, child-placed, child-by}
 use Rattle.search_spec.proofs.Turns.{rest-start, rest-same, rest-done, rest-cut, rest-halted, rest-stopped, rest-onward}
@@ -80,7 +80,7 @@ module _ {m q clip : ℕ} {numbers : List ℤ} {n : Node} (w : NodeIn m q clip n
           fails)
         where
           fails : (s : ℕ) → s < 2 ^ q
-              → passing v t (keyOf v (n .level - 1) (n .bits) (n .partial) s) ((n .level - 1) * q) (childOf v (n .level - 1) (n .bits) s) ≡ false
+              → passing v t (keyOf v (n .level - 1) (n .bits) (n .partial) s) ((n .level - 1) * q) (childIn v (n .level - 1) (n .bits) s) ≡ false
           fails s h =
               let e = child-by v (n .level) (some w inner) (within w) m (n .bits) s (s * 2 ^ ((m - n .level) * q) + n .bits) (sym streams) refl in
               rw (← key-by m q numbers (w .asked .vector) clip (n .level - 1) (n .bits) (n .partial) s (row-inside w inner), ← e)
@@ -157,7 +157,7 @@ module _ {m q clip : ℕ} {numbers : List ℤ} {allowance : ℕ} {n : Node} {who
     symbol : s < 2 ^ q
     symbol = symbol-inside keys q (2 ^ q) s refl refl
 
-    child-is : next .bits ≡ childOf at (n .level - 1) (n .bits) s
+    child-is : next .bits ≡ childIn at (n .level - 1) (n .bits) s
     child-is = child-by at (n .level) (some w (h .inner)) (within w) m (n .bits) s (next .bits) (sym (streams w)) refl
 
     -- It is a node of the vector

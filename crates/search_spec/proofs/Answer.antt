@@ -13,9 +13,9 @@ use Rattle.model.specs.Constellation.{Bits}
 use Rattle.model.specs.Metric.{Row, Vector, metric, labelBits, priorAt}
 use Rattle.model.specs.Soft.{places, softValue}
 use Rattle.model.specs.Block.{Answer, answer, RowsInRange, mostStreams, mostWidth, mostBits}
-use Rattle.model.specs.Search.{search, valueAt, outcome}
+use Rattle.model.specs.Search.{search, valueAt, searchAnswer}
 use Rattle.model.proofs.Lists.{map-upFrom}
-use Rattle.model.proofs.Search.{outcome-is}
+use Rattle.model.proofs.Search.{search-answers}
 use Rattle.model.proofs.Bounds.{metric-bound, largestMetric, largest-rises, metric-largest}
 use Rattle.metric.specs.Parts.{filled}
 use Rattle.search_spec.specs.Program.{above, mostChildren, Ranged}
@@ -29,8 +29,8 @@ pub largest-low : (q m : ℕ) → q ≤ mostWidth → m ≤ mostStreams → m * 
 largest-low q m h k few = omega (arith, metric-largest q m h k few)
 
 -- What agrees gives one answer
-same-answer : (v : Vector) (k : Kept) (allowance : ℕ) → Agrees v (search v allowance) k → replied v k ≡ outcome v (search v allowance)
-unfolding replied outcome valueOf
+same-answer : (v : Vector) (k : Kept) (allowance : ℕ) → Agrees v (search v allowance) k → replied v k ≡ searchAnswer v (search v allowance)
+unfolding replied searchAnswer valueOf
 same-answer v k allowance a = λ j. answerOf (a .stopped j) (a .count j) (a .label j) (values j)
   where
     values : map (valueOf v (k .taken)) (places v) ≡ map (valueAt v (search v allowance)) (places v)
@@ -67,7 +67,7 @@ module _ (v : Vector) (r : Ranged v) where
   pub replied-is : (allowance room : ℕ) → labelBits v ≤ room
       → replied v (below v allowance (length (v .rows)) 0 0 (fresh room)) ≡ answer v allowance
   replied-is allowance room h =
-      same-answer v _ allowance (search-agrees v allowance metric-low (r .bit) room h (r .stream)) ∙ outcome-is v (r .bit) allowance
+      same-answer v _ allowance (search-agrees v allowance metric-low (r .bit) room h (r .stream)) ∙ search-answers v (r .bit) allowance
 
   -- What a program has kept at the end
   module _ (allowance room : ℕ) (h : labelBits v ≤ room) {count : ℕ} {stopped : Bool} {t : Taken}

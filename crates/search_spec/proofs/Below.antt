@@ -18,7 +18,7 @@ use Rattle.model.proofs.Numbers.{number-append, number-bitsOf, bitsOf-number, l
 use Rattle.model.proofs.Tree.{children-count}
 use Rattle.search_spec.specs.Arrays.{leastFirst}
 use Rattle.search_spec.specs.Program.{above, Taken, Kept, keptOf, fresh, passing}
-use Rattle.search_spec.specs.Program.{noRow, chosen, keyOf, childOf, keysOf, onward, siblings, testOf, below}
+use Rattle.search_spec.specs.Program.{noRow, chosen, keyOf, childIn, keysOf, onward, siblings, testOf, below}
 use Rattle.search_spec.proofs.Order.{child, Remaining, Next, begin, next}
 use Rattle.search_spec.proofs.Agree.{Agrees, passing-is, entered, noted-is, stopped-is, fresh-is}
 
@@ -144,7 +144,7 @@ module _ (v : Vector) (allowance : ℕ) where
       abbrev down : ℕ → Bits
       down i = child (v .width) node i
 
-      child-is : (i : ℕ) → i < 2 ^ v .width → childOf v (length todo) (number node) i ≡ number (down i)
+      child-is : (i : ℕ) → i < 2 ^ v .width → childIn v (length todo) (number node) i ≡ number (down i)
       child-is i h =
           ap₂ (λ (a b : ℕ). a * 2 ^ b + number node) (sym (number-bitsOf (v .width) i h)) (chosen-is p)
           ∙ sym (number-append (bitsOf (v .width) i) node)
@@ -195,7 +195,7 @@ module _ (v : Vector) (allowance : ℕ) where
           test = testOf v (length todo) (number node)
 
           sub : ℕ → ℕ → Kept → Kept
-          sub i = below v allowance (length todo) (childOf v (length todo) (number node) i)
+          sub i = below v allowance (length todo) (childIn v (length todo) (number node) i)
 
           same-test : (i : ℕ) (s : Search) (k : Kept) → i < 2 ^ v .width → Agrees v s k
               → test i (metric (v .width) (r ∷ done) (down i)) (k .taken) ≡ admits v s (metric (v .width) (r ∷ done) (down i)) (down i)

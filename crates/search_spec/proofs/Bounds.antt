@@ -19,7 +19,7 @@ use Rattle.metric.specs.Parts.{filled}
 use Rattle.search_spec.specs.Arrays.{leastFirst}
 use Rattle.metric.specs.Parts.{bitOf}
 use Rattle.search_spec.specs.Program.{above, largestPartial, Ranged, Taken, Kept, keptOf, fresh, loweredAt, lowered, noted}
-use Rattle.search_spec.specs.Program.{noRow, chosen, keyOf, childOf, keysOf, onward, siblings, testOf, below}
+use Rattle.search_spec.specs.Program.{noRow, chosen, keyOf, childIn, keysOf, onward, siblings, testOf, below}
 use Rattle.search_spec.proofs.Arrays.{least-below, set-each, Held, held-start}
 use Rattle.search_spec.proofs.Answer.{rows-low}
 
@@ -95,8 +95,8 @@ below-falls v allowance zero node d k = record {
   ones = lowered-falls (labelBits v) true node d (k .taken .ones);
 }
 below-falls v allowance (suc level) node d k =
-    siblings-fall (testOf v level node) (λ s. below v allowance level (childOf v level node s)) (2 ^ v .width) allowance
-    (λ s. below-falls v allowance level (childOf v level node s)) (2 ^ v .width) (keysOf v level node d) k
+    siblings-fall (testOf v level node) (λ s. below v allowance level (childIn v level node s)) (2 ^ v .width) allowance
+    (λ s. below-falls v allowance level (childIn v level node s)) (2 ^ v .width) (keysOf v level node d) k
 
 -- The same of its result
 pub kept-falls : (v : Vector) (allowance level node d : ℕ) (k w : Kept) → w ≡ below v allowance level node d k
@@ -149,12 +149,12 @@ module _ (v : Vector) (level : ℕ) (inner : level ≡ 0 → ⊥) (inside : leve
 
   -- Its number, of M = m streams
   pub child-by : (m node s child : ℕ) → m ≡ length (v .rows) → child ≡ s * 2 ^ ((m - level) * v .width) + node
-      → child ≡ childOf v (level - 1) node s
+      → child ≡ childIn v (level - 1) node s
   unfolding chosen
   child-by m node s child em e = let up : suc (level - 1) ≡ level = omega arith in rw (up, ← em) e
 
   -- has the bits of its level
-  pub child-placed : (node s child : ℕ) → s < 2 ^ v .width → node < 2 ^ chosen v level → child ≡ childOf v (level - 1) node s
+  pub child-placed : (node s child : ℕ) → s < 2 ^ v .width → node < 2 ^ chosen v level → child ≡ childIn v (level - 1) node s
       → child < 2 ^ chosen v (level - 1)
   child-placed node s child hs hn e =
       let up : suc (level - 1) ≡ level = omega arith in

@@ -21,7 +21,7 @@ use Rattle.model.proofs.Lists.{or-left, or-right, any-false, in-upFrom, getD-pl
 use Rattle.metric.specs.Parts.{bitOf}
 use Rattle.search_spec.specs.Arrays.{leastFirst}
 use Rattle.search_spec.specs.Program.{above, Taken, Kept, opens, reachOf, reaches, lets, passing}
-use Rattle.search_spec.specs.Program.{chosen, keyOf, keysOf, childOf, siblings, testOf, below, restOf}
+use Rattle.search_spec.specs.Program.{chosen, keyOf, keysOf, childIn, siblings, testOf, below, restOf}
 use Rattle.search_spec.proofs.Arrays.{least-below, least-le, set-each}
 use Rattle.search_spec.proofs.Reach.{child-bit}
 
@@ -100,7 +100,7 @@ pub rest-beyond : (v : Vector) (allowance node level fuel : ℕ) (keys : List �
     → restOf v allowance level node fuel keys k ≡ k
 unfolding restOf chosen
 rest-beyond v allowance node level fuel keys k inside placed low far =
-    siblings-end (testOf v level node) (λ x. below v allowance level (childOf v level node x)) (2 ^ v .width) allowance (λ _. d) k
+    siblings-end (testOf v level node) (λ x. below v allowance level (childIn v level node x)) (2 ^ v .width) allowance (λ _. d) k
     (pow-pos (v .width)) (λ _ _. low) cut fuel keys (least-le keys (2 ^ v .width))
   where
     d : ℕ
@@ -113,22 +113,22 @@ rest-beyond v allowance node level fuel keys k inside placed low far =
 
     cut : (s e : ℕ) → s < 2 ^ v .width → d ≤ e → testOf v level node s e (k .taken) ≡ false
     cut s e l h =
-        passing-falls v (k .taken) d e (suc level * v .width) node (level * v .width) (childOf v level node s) h
+        passing-falls v (k .taken) d e (suc level * v .width) node (level * v .width) (childIn v level node s) h
         (λ i l. opens-child (labelBits v) (k .taken .label) ((length (v .rows) - suc level) * v .width) s node (level * v .width)
         (suc level * v .width) i placed bits (omega (arith, add-mul level 1 (v .width))) l) (sym far)
 
 -- A node whose children all fail the test is left as it was found
 pub below-shut : (v : Vector) (allowance level node d : ℕ) (k : Kept)
     → ((s : ℕ) → s < 2 ^ v .width → keyOf v level node d s ≤ above)
-    → ((s : ℕ) → s < 2 ^ v .width → passing v (k .taken) (keyOf v level node d s) (level * v .width) (childOf v level node s) ≡ false)
+    → ((s : ℕ) → s < 2 ^ v .width → passing v (k .taken) (keyOf v level node d s) (level * v .width) (childIn v level node s) ≡ false)
     → below v allowance (suc level) node d k ≡ k
 unfolding below
 below-shut v allowance level node d k low shut =
-    siblings-end (testOf v level node) (λ x. below v allowance level (childOf v level node x)) (2 ^ v .width) allowance
+    siblings-end (testOf v level node) (λ x. below v allowance level (childIn v level node x)) (2 ^ v .width) allowance
     (keyOf v level node d) k (pow-pos (v .width)) low cut (2 ^ v .width) (keysOf v level node d)
     (λ i l. le-of-eq (sym (getD-places (keyOf v level node d) 0 (2 ^ v .width) i l)))
   where
     cut : (s e : ℕ) → s < 2 ^ v .width → keyOf v level node d s ≤ e → testOf v level node s e (k .taken) ≡ false
     cut s e l h =
-        passing-falls v (k .taken) (keyOf v level node d s) e (level * v .width) (childOf v level node s) (level * v .width)
-        (childOf v level node s) h (λ i m o. o) (shut s l)
+        passing-falls v (k .taken) (keyOf v level node d s) e (level * v .width) (childIn v level node s) (level * v .width)
+        (childIn v level node s) h (λ i m o. o) (shut s l)

@@ -14,7 +14,7 @@ use Rattle.model.specs.Metric.{Vector}
 use Rattle.model.proofs.Lists.{length-upFrom, getD-places}
 use Rattle.search_spec.specs.Arrays.{leastFirst}
 use Rattle.search_spec.specs.Program.{above, Taken, Kept, keptOf, passing}
-use Rattle.search_spec.specs.Program.{keyOf, childOf, keysOf, onward, siblings, testOf, below, restOf}
+use Rattle.search_spec.specs.Program.{keyOf, childIn, keysOf, onward, siblings, testOf, below, restOf}
 use Rattle.search_spec.proofs.Arrays.{least-below, Same, least-same, same-set}
 
 -- Only the first n keys decide
@@ -55,7 +55,7 @@ module _ (v : Vector) (n : ℕ) (en : n ≡ 2 ^ v .width) (allowance node level 
       test = testOf v (level - 1) node
 
       sub : ℕ → ℕ → Kept → Kept
-      sub s = below v allowance (level - 1) (childOf v (level - 1) node s)
+      sub s = below v allowance (level - 1) (childIn v (level - 1) node s)
 
       same : Same (2 ^ v .width) (keysOf v (level - 1) node d) keys
       same = record {
@@ -77,7 +77,7 @@ module _ (v : Vector) (n : ℕ) (en : n ≡ 2 ^ v .width) (allowance node level 
     rest-done h = let e : n - turns ≡ 0 = omega arith in rw e
 
     -- The child with the first smallest key is tried
-    module _ (more : turns < n) (s : ℕ) (es : s ≡ leastFirst keys n) (child : ℕ) (ec : child ≡ childOf v level node s) where
+    module _ (more : turns < n) (s : ℕ) (es : s ≡ leastFirst keys n) (child : ℕ) (ec : child ≡ childIn v level node s) where
       abbrev searched : Kept
       searched = below v allowance level child (getD keys s 0) (keptOf (k .count + 1) (k .stopped) (k .taken))
 

@@ -131,8 +131,8 @@ unfoldable pub keyOf : Vector → ℕ → ℕ → ℕ → ℕ → ℕ
 keyOf v level node d s = d + increment (v .width) (getD (v .rows) level noRow) (bitsOf (v .width) s ++ bitsOf (chosen v (suc level)) node)
 
 -- The child's number
-abbrev pub childOf : Vector → ℕ → ℕ → ℕ → ℕ
-childOf v level node s = s * 2 ^ chosen v (suc level) + node
+abbrev pub childIn : Vector → ℕ → ℕ → ℕ → ℕ
+childIn v level node s = s * 2 ^ chosen v (suc level) + node
 
 -- The keys of all children
 abbrev pub keysOf : Vector → ℕ → ℕ → ℕ → List ℕ
@@ -159,19 +159,19 @@ module _ (test : ℕ → ℕ → Taken → Bool) (sub : ℕ → ℕ → Kept →
 
 -- The pass test of a node's child
 abbrev pub testOf : Vector → ℕ → ℕ → ℕ → ℕ → Taken → Bool
-testOf v level node s d t = passing v t d (level * v .width) (childOf v level node s)
+testOf v level node s d t = passing v t d (level * v .width) (childIn v level node s)
 
 -- The search below a node of partial metric d, with `level` streams to choose
 unfoldable pub below : Vector → ℕ → ℕ → ℕ → ℕ → Kept → Kept
 below v allowance zero node d k = keptOf (k .count) (k .stopped) (noted v node d (k .taken))
 below v allowance (suc level) node d k =
-    siblings (testOf v level node) (λ s. below v allowance level (childOf v level node s)) (2 ^ v .width) allowance (2 ^ v .width)
+    siblings (testOf v level node) (λ s. below v allowance level (childIn v level node s)) (2 ^ v .width) allowance (2 ^ v .width)
     (keysOf v level node d) k
 
 -- What is left to do below a node with `fuel` children not tried
 unfoldable pub restOf : Vector → ℕ → ℕ → ℕ → ℕ → List ℕ → Kept → Kept
 restOf v allowance level node fuel keys k =
-    siblings (testOf v level node) (λ s. below v allowance level (childOf v level node s)) (2 ^ v .width) allowance fuel keys k
+    siblings (testOf v level node) (λ s. below v allowance level (childIn v level node s)) (2 ^ v .width) allowance fuel keys k
 
 -- Bit i's soft value, from the minima
 unfoldable pub valueOf : Vector → Taken → ℕ → ℤ

@@ -15,7 +15,7 @@ use lib.Pow.{shl-exact}
 use lib.Seq.{drop-cons}
 use Rattle.wire.specs.declared.Number.{Number}
 use Rattle.wire.specs.declared.Number.the-variants.{Value, Short, Malformed}
-use Rattle.wire.specs.Reading.{above, lastGroup, groups, numberAt, numberRefusal}
+use Rattle.wire.specs.Reading.{aboveDigits, lastGroup, groups, numberAt, numberRefusal}
 use Rattle.wire.proofs.Writing.{weight}
 
 module _ (g : ℕ) (first : Bool) (at b : ℕ) (l : List ℕ) where
@@ -25,7 +25,7 @@ module _ (g : ℕ) (first : Bool) (at b : ℕ) (l : List ℕ) where
   groups-last h = rw (lt-ltb b 128 h)
 
   -- A group with it is followed by others
-  pub groups-more : 128 ≤ b → groups (suc g) first at (b ∷ l) ≡ above 1 (b % 128) (groups g false (at + 1) l)
+  pub groups-more : 128 ≤ b → groups (suc g) first at (b ∷ l) ≡ aboveDigits 1 (b % 128) (groups g false (at + 1) l)
   unfolding groups
   groups-more h = rw (le-ltb b 128 h)
 
@@ -36,15 +36,15 @@ lastGroup-is true b next h = refl
 lastGroup-is false b next h = let some = h refl in rw (ne-eqb b 0 (λ e. omega arith))
 
 -- Nothing below a number
-above-none : (x : Number) → above 0 0 x ≡ x
-unfolding above
+above-none : (x : Number) → aboveDigits 0 0 x ≡ x
+unfolding aboveDigits
 above-none (Value w next) = ap (λ (n : ℕ). Value n next) (omega arith)
 above-none Short = refl
 above-none Malformed = refl
 
 -- A group below a number, above k others
-above-above : (k v d : ℕ) (x : Number) → above k v (above 1 d x) ≡ above (k + 1) (d * 2 ^ (7 * k) + v) x
-unfolding above
+above-above : (k v d : ℕ) (x : Number) → aboveDigits k v (aboveDigits 1 d x) ≡ aboveDigits (k + 1) (d * 2 ^ (7 * k) + v) x
+unfolding aboveDigits
 above-above k v d (Value w next) = ap (λ (n : ℕ). Value n next) (rw (add-one k, weight k) (sums (2 ^ (7 * k))))
   where
     sums : (p : ℕ) → (w * 128 + d) * p + v ≡ w * (p * 128) + (d * p + v)
@@ -54,7 +54,7 @@ above-above k v d Malformed = refl
 
 -- The reader at a place, after k groups whose digits make v
 unfoldable pub state : List ℕ → ℕ → ℕ → ℕ → Number
-state l place k v = above k v (groups (4 - k) (eqb k 0) place (drop place l))
+state l place k v = aboveDigits k v (groups (4 - k) (eqb k 0) place (drop place l))
 
 pub state-start : (l : List ℕ) (at : ℕ) → numberAt l at ≡ state l at 0 0
 unfolding numberAt state
@@ -63,7 +63,7 @@ state-start l at = sym (above-none _)
 module _ (l : List ℕ) (place k v : ℕ) where
   -- Four groups all had the high bit
   pub state-malformed : 4 ≤ k → state l place k v ≡ Malformed
-  unfolding state groups above
+  unfolding state groups aboveDigits
   state-malformed h = let e : 4 - k ≡ 0 = omega arith in rw e
 
   module _ (h : k < 4) where
@@ -72,12 +72,12 @@ module _ (l : List ℕ) (place k v : ℕ) where
 
     -- The bytes end
     pub state-short : length l ≤ place → state l place k v ≡ Short
-    unfolding state groups above
+    unfolding state groups aboveDigits
     state-short s = rw (fuel, drop-of-length-le l {i = place} s)
 
     module _ (s : place < length l) where
       -- The group at the place
-      state-here : state l place k v ≡ above k v (groups (suc (4 - (k + 1))) (eqb k 0) place (getD l place 0 ∷ drop (place + 1) l))
+      state-here : state l place k v ≡ aboveDigits k v (groups (suc (4 - (k + 1))) (eqb k 0) place (getD l place 0 ∷ drop (place + 1) l))
       unfolding state
       state-here = rw (fuel, drop-cons l place 0, add-one place)
 
@@ -90,7 +90,7 @@ module _ (l : List ℕ) (place k v : ℕ) where
 
       -- It is the last, 0 after another
       pub state-zero : getD l place 0 ≡ 0 → 0 < k → state l place k v ≡ Malformed
-      unfolding above lastGroup
+      unfolding aboveDigits lastGroup
       state-zero b p =
           let later : eqb k 0 ≡ false = ne-eqb k 0 (λ e. omega arith) in
           let last : getD l place 0 < 128 = omega arith in
@@ -99,7 +99,7 @@ module _ (l : List ℕ) (place k v : ℕ) where
       -- It is the last, and a number's
       pub state-value : getD l place 0 < 128 → (eqb k 0 ≡ false → 0 < getD l place 0)
           → state l place k v ≡ Value (getD l place 0 % 128 * 2 ^ (7 * k) + v) (place + 1)
-      unfolding above
+      unfolding aboveDigits
       state-value b some =
           let all : getD l place 0 % 128 ≡ getD l place 0 = omega arith in
           state-here

@@ -13,7 +13,7 @@ use lib.Pow.{pow-pos}
 use lib.Seq.{drop-append-seam, drop-drop, getD-drop}
 use Rattle.wire.specs.declared.Number.{Number}
 use Rattle.wire.specs.declared.Number.the-variants.{Value, Short, Malformed}
-use Rattle.wire.specs.Reading.{above, lastGroup, groups, numberAt, Sound, Bytes}
+use Rattle.wire.specs.Reading.{aboveDigits, lastGroup, groups, numberAt, Sound, Bytes}
 use Rattle.wire.specs.Writing.{groupsOf, bytesOf}
 use Rattle.wire.specs.Folding.{folded, unfolded}
 use Rattle.wire.proofs.Writing.{weight, groupsOf-last, groupsOf-more, left-below, left-room, groupsOf-some}
@@ -46,7 +46,7 @@ unfolded-below n b h = go (unfolded n) h (folded-unfolded n)
 -- Reading what was written, at most g groups of it
 read-groups : (g : ℕ) (first : Bool) (at n : ℕ) (after : List ℕ) (t : Bool) → ltb n 128 ≡ t → 0 < g → n < 2 ^ (7 * g)
     → (first ≡ false → 0 < n) → groups g first at (groupsOf g n ++ after) ≡ Value n (at + length (groupsOf g n))
-unfolding above
+unfolding aboveDigits
 read-groups zero first at n after t e p b h = absurd (omega arith)
 read-groups (suc g) first at n after true e p b h =
     let small : n < 128 = ltb-true n 128 e in
@@ -57,7 +57,7 @@ read-groups (suc g) first at n after false e p b h =
     read-groups g false (at + 1) (n / 128) after (ltb (n / 128) 128) refl (left-room g n b large) (left-below g n b) (λ e. omega arith) in
     rw (groupsOf-more g n large)
     (groups-more g first at (n % 128 + 128) (groupsOf g (n / 128) ++ after) (omega arith)
-    ∙ ap (above 1 ((n % 128 + 128) % 128)) rest ∙ ap₂ Value (omega arith) (omega arith))
+    ∙ ap (aboveDigits 1 ((n % 128 + 128) % 128)) rest ∙ ap₂ Value (omega arith) (omega arith))
 
 -- Reading where a written number begins gives the number, and the place after it
 pub read-at : (l : List ℕ) (at : ℕ) (after : List ℕ) (n : ℕ) → n < 2 ^ 28 → drop at l ≡ bytesOf n ++ after
@@ -108,9 +108,9 @@ module _ (g : ℕ) (first : Bool) (at b : ℕ) (l : List ℕ) (n next : ℕ) whe
       })
 
   -- A group that others follow, of which as much is known
-  back-more : 128 ≤ b → (x : Number) → ((v p : ℕ) → x ≡ Value v p → Back g false (at + 1) l v p) → above 1 (b % 128) x ≡ Value n next
+  back-more : 128 ≤ b → (x : Number) → ((v p : ℕ) → x ≡ Value v p → Back g false (at + 1) l v p) → aboveDigits 1 (b % 128) x ≡ Value n next
       → Back (suc g) first at (b ∷ l) n next
-  unfolding above
+  unfolding aboveDigits
   back-more h (Value v p) rest e =
       let r = rest v p refl in
       let value : v * 128 + b % 128 ≡ n = cc in
@@ -135,7 +135,7 @@ back zero first at l n next e = absurd (malformed-no e)
 back (suc g) first at [] n next e = absurd (short-no e)
 back (suc g) first at (b ∷ l) n next e = go (ltb b 128) refl e (back g false (at + 1) l)
   where
-    go : (t : Bool) → ltb b 128 ≡ t → cond t (lastGroup first b (at + 1)) (above 1 (b % 128) (groups g false (at + 1) l)) ≡ Value n next
+    go : (t : Bool) → ltb b 128 ≡ t → cond t (lastGroup first b (at + 1)) (aboveDigits 1 (b % 128) (groups g false (at + 1) l)) ≡ Value n next
         → ((v p : ℕ) → groups g false (at + 1) l ≡ Value v p → Back g false (at + 1) l v p) → Back (suc g) first at (b ∷ l) n next
     go true t e rest = back-last g first at b l n next (ltb-true b 128 t) e
     go false t e rest = back-more g first at b l n next (ltb-false b 128 t) _ rest e

@@ -8,10 +8,10 @@ use Rattle.wire.specs.declared.Number.{Number}
 use Rattle.wire.specs.declared.Number.the-variants.{Value, Short, Malformed}
 
 -- "groups of seven bits, least significant first": the digits v of the first k groups, and above them the number x of the others
-unfoldable pub above : ℕ → ℕ → Number → Number
-above k v (Value w next) = Value (w * 2 ^ (7 * k) + v) next
-above k v Short = Short
-above k v Malformed = Malformed
+unfoldable pub aboveDigits : ℕ → ℕ → Number → Number
+aboveDigits k v (Value w next) = Value (w * 2 ^ (7 * k) + v) next
+aboveDigits k v Short = Short
+aboveDigits k v Malformed = Malformed
 
 -- The last group b: in "shortest form" no number has "a last group of 0 after another"
 unfoldable pub lastGroup : Bool → ℕ → ℕ → Number
@@ -22,7 +22,7 @@ lastGroup first b next = cond first (Value b next) (cond (eqb b 0) Malformed (Va
 unfoldable pub groups : ℕ → Bool → ℕ → List ℕ → Number
 groups zero first at l = Malformed
 groups (suc g) first at [] = Short
-groups (suc g) first at (b ∷ l) = cond (ltb b 128) (lastGroup first b (at + 1)) (above 1 (b % 128) (groups g false (at + 1) l))
+groups (suc g) first at (b ∷ l) = cond (ltb b 128) (lastGroup first b (at + 1)) (aboveDigits 1 (b % 128) (groups g false (at + 1) l))
 
 -- The number at a place, with the place after it: "at most four groups"
 unfoldable pub numberAt : List ℕ → ℕ → Number

@@ -42,7 +42,7 @@ fill-least-requires c κs =
     rw (one-shifted q (omega (arith, s .pre .0)), one-shifted (q - q / 2) (omega (arith, s .pre .0)))
     (omega (arith, base-small f), s .pre .3, pow-mono w, omega (arith, same, s .pre .4))
 
-fill-columns-requires : tie.Need-fill-columns-requires
+fill-columns-requires : tie.Need-fill-least-columns-requires
 fill-columns-requires c κs =
     let l = c .before .before .before in
     let f = l .before .before .before in
@@ -65,7 +65,7 @@ returns c =
     let h = s .pre .0 in
     keys-in q _ _ _ (s .args .partial) (s .args .axes .now) (s .args .keys .now) _ _ _ (f .least-first .result)
     (one-shifted q (omega arith)) (one-shifted (q / 2) (omega arith)) (one-shifted (q - q / 2) (omega arith))
-    (f .least-first .ensures .0) (f .before .before .before .before .fill-children .ensures) (l .fill-least .ensures) (k .fill-columns .ensures)
+    (f .least-first .ensures .0) (f .before .before .before .before .fill-children .ensures) (l .fill-least .ensures) (k .fill-least-columns .ensures)
 
 pub fill-spec : {M : Type 1} → statement M
 fill-spec =

@@ -11,8 +11,8 @@ use Rattle.metric.specs.Parts.{axisWidth}
 use Rattle.metric.proofs.Shifts.{one-shifted}
 use Rattle.limits.specs.Reach.{AxisFilled}
 use Rattle.limits.proofs.Axes.{axis-none, axis-more}
-use Rattle.limits.proofs.fill_entries.Statement.{statement}
-use Rattle.limits.proofs.fill_entries.Tie as tie
+use Rattle.limits.proofs.fill_entry_limits.Statement.{statement}
+use Rattle.limits.proofs.fill_entry_limits.Tie as tie
 
 abbrev Inv-loop : tie.InvT-loop
 Inv-loop limits₀ at w to b₀ limits b =
@@ -75,8 +75,8 @@ returns c =
     let e : l .loop .b ≡ a .w = omega (arith, l .loop .inv .0, c .loop-test .left) in
     subst (λ (b : ℕ). AxisFilled (a .limits .now) (l .loop .limits) (a .at) (a .w) (a .to) b) e (so-far l)
 
-pub fill-entries-spec : {M : Type 1} → statement M
-fill-entries-spec =
+pub fill-entry-limits-spec : {M : Type 1} → statement M
+fill-entry-limits-spec =
     tie.close
     (tie.spec
     Inv-loop

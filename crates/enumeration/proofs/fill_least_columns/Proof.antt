@@ -1,10 +1,10 @@
 -- Eight rows, four or any other number of them: the same pass.
 use borrow.Author.Needs.{needs}
-use Rattle.enumeration.proofs.fill_columns.Statement.{statement}
-use Rattle.enumeration.proofs.fill_columns.Tie as tie
+use Rattle.enumeration.proofs.fill_least_columns.Statement.{statement}
+use Rattle.enumeration.proofs.fill_least_columns.Tie as tie
 
-pub fill-columns-spec : {M : Type 1} → statement M
-fill-columns-spec =
+pub fill-least-columns-spec : {M : Type 1} → statement M
+fill-least-columns-spec =
     tie.close
     (tie.spec
     (λ c κs. search needs)
