@@ -3,7 +3,7 @@
 
 #include <string.h>
 
-/* A refusal's words: of a record, and of a number of a list, which may be of either sign. */
+/* A refusal's words: of a record, and of a number for the writer, which may be of either sign. */
 struct refusal {
     const char *words;
     const char *range;
@@ -12,10 +12,10 @@ struct refusal {
 /* A refusal that says the same of both. */
 #define RANGED(subject, range) {subject " not " range, range}
 
-/* By refusal number: document 01's table and document 02's 15. */
+/* By refusal number: document 01's table, and document 02's 15 and 16. */
 static const struct refusal REFUSALS[] = {
     {"", NULL},
-    {"the first four bytes are missing or are not 43 42 52 31", NULL},
+    {"the first four bytes are missing or are neither 43 42 52 31 nor 43 42 52 32", "1 or 2"},
     {"the record ends before the last group of a number", NULL},
     {"a number has four groups and no last one, or ends in a group of 0 that it does not need",
      NULL},
@@ -32,6 +32,7 @@ static const struct refusal REFUSALS[] = {
     {"the reply buffer is shorter than 7 + N x (9 + 4 x M x Q) bytes", NULL},
     {"the bits of a symbol Q are 8, which at most three streams may have, and M is 4",
      "1, 2, 4 or 6, since at most three streams may have 8"},
+    RANGED("the weak value W is", "0 to C"),
 };
 
 static int is_known(int64_t number)

@@ -20,12 +20,12 @@
 extern "C" {
 #endif
 
-/* What is wrong with what is refused by this number; 2, 13 and 14 in geckoneedle_detect's words. */
+/* What is wrong with what is refused by this number; 1, 2, 13, 14 in geckoneedle_detect's words. */
 const char *geckoneedle_refusal_text(int64_t number);
 
 /*
- * What a number of a list must be that geckoneedle_write refuses by this one, as "1 to 4". NULL
- * where a refusal is not about what a number is.
+ * What a number must be that geckoneedle_write refuses by this one, as "1 to 4": the opening that it
+ * is told, or one of the list. NULL where a refusal is not about what a number is.
  */
 const char *geckoneedle_range_text(int64_t number);
 

@@ -2,11 +2,33 @@
 
 #include <inttypes.h>
 
-/* The numbers before the first vector, in their order. */
-static const char *const SIZES[] = {
-    "M, the number of streams", "Q, the bits of a symbol", "N, the number of vectors", "C, the clip", "D, the share",
+#include "numbers.h"
+
+/* The numbers that may stand before the first vector. */
+#define STREAMS "M, the number of streams"
+#define WIDTH "Q, the bits of a symbol"
+#define VECTORS "N, the number of vectors"
+#define CLIP "C, the clip"
+#define WEAK_VALUE "W, the weak value"
+#define SHARE "D, the share"
+
+/* Those that a record has, in their order: how many, their letters, and what each is. */
+struct header {
+    size_t count;
+    const char *letters;
+    const char *places[6];
 };
-enum { SIZES_COUNT = sizeof SIZES / sizeof SIZES[0] };
+
+/* By opening, from 1 on. */
+static const struct header HEADERS[] = {
+    {5, "M Q N C D", {STREAMS, WIDTH, VECTORS, CLIP, SHARE}},
+    {6, "M Q N C W D", {STREAMS, WIDTH, VECTORS, CLIP, WEAK_VALUE, SHARE}},
+};
+
+static const struct header *header_of(uint32_t opening)
+{
+    return &HEADERS[opening - 1];
+}
 
 /* How many numbers a row of R has, rows counted from 1: the diagonal entry, and two for each entry right of it. */
 static size_t row_numbers(size_t streams, size_t row)
@@ -50,16 +72,17 @@ static void print_vector_place(FILE *file, size_t at, size_t streams, size_t bit
     }
 }
 
-void print_place(FILE *file, size_t index, const int32_t *numbers)
+void print_place(FILE *file, uint32_t opening, size_t index, const int32_t *numbers)
 {
-    if (index < SIZES_COUNT) {
-        fprintf(file, "%s", SIZES[index]);
+    const struct header *header = header_of(opening);
+    if (index < header->count) {
+        fprintf(file, "%s", header->places[index]);
         return;
     }
     size_t streams = (size_t)numbers[0];
     size_t bits = (size_t)numbers[1];
     size_t in_vector = streams * streams + 2 * streams + streams * bits;
-    size_t at = index - SIZES_COUNT;
+    size_t at = index - header->count;
     fprintf(file, "vector %zu, ", at / in_vector + 1);
     print_vector_place(file, at % in_vector, streams, bits);
 }
@@ -89,10 +112,14 @@ static const int32_t *print_vector(const int32_t *next, size_t streams, size_t b
     return next;
 }
 
-void print_text(const int32_t *numbers)
+void print_text(uint32_t opening, const int32_t *numbers)
 {
-    const int32_t *next = print_numbers(numbers, SIZES_COUNT);
-    printf("   # M Q N C D\n");
+    const struct header *header = header_of(opening);
+    if (opening != OPENING_UNSAID) {
+        printf(OPENING_WORD " %" PRIu32 "\n", opening);
+    }
+    const int32_t *next = print_numbers(numbers, header->count);
+    printf("   # %s\n", header->letters);
     for (int32_t vector = 1; vector <= numbers[2]; vector++) {
         printf("# vector %" PRId32 "\n", vector);
         next = print_vector(next, (size_t)numbers[0], (size_t)numbers[1]);

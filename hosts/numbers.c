@@ -2,6 +2,7 @@
 
 #include <errno.h>
 #include <stdio.h>
+#include <string.h>
 
 #include "reading.h"
 
@@ -89,7 +90,7 @@ static void add_character(struct word *word, int character)
     word->length++;
 }
 
-/* The word that begins here. */
+/* Takes the word that begins here, and goes on to the next word or the end. */
 static struct word next_word(struct text *text)
 {
     struct word word = {.at = text->at};
@@ -97,7 +98,14 @@ static struct word next_word(struct text *text)
         add_character(&word, text->next);
         step(text);
     }
+    skip_to_word(text);
     return word;
+}
+
+static int is_opening_word(const struct word *word)
+{
+    size_t length = sizeof OPENING_WORD - 1;
+    return word->length == length && memcmp(word->shown, OPENING_WORD, length) == 0;
 }
 
 /* What is seen on any terminal, and the other bytes in hexadecimal. */
@@ -119,8 +127,8 @@ static int refuse(const struct text *text, const struct word *word, const char *
     return 1;
 }
 
-/* Takes a word as the next number. Returns 0, or 1 after a message. */
-static int take_number(const struct text *text, const struct word *word, struct numbers *numbers)
+/* The number that a word is. Returns 0, or 1 after a message. */
+static int take_value(const struct text *text, const struct word *word, int32_t *value)
 {
     if (word->has_others || !word->has_digits) {
         return refuse(text, word, "'", "is not a whole number");
@@ -132,10 +140,31 @@ static int take_number(const struct text *text, const struct word *word, struct 
     if (number < INT32_MIN) {
         return refuse(text, word, "", "is too small for any number of a record");
     }
-    numbers->positions[numbers->count] = word->at;
-    numbers->values[numbers->count] = (int32_t)number;
-    numbers->count++;
+    *value = (int32_t)number;
     return 0;
+}
+
+/* Takes a word as the next number of the list. Returns 0, or 1 after a message. */
+static int take_number(const struct text *text, const struct word *word, struct numbers *numbers)
+{
+    size_t index = numbers->count++;
+    numbers->positions[index] = word->at;
+    return take_value(text, word, &numbers->values[index]);
+}
+
+/* Takes the first word: as a number of the list, or where it is `opening`, with the word behind it. Returns 0, or 1 after a message. */
+static int take_first(struct text *text, struct numbers *numbers)
+{
+    struct word word = next_word(text);
+    if (!is_opening_word(&word)) {
+        return take_number(text, &word, numbers);
+    }
+    if (text->next == EOF) {
+        return refuse(text, &word, "'", "has no number behind it");
+    }
+    word = next_word(text);
+    numbers->opening_position = word.at;
+    return take_value(text, &word, &numbers->opening);
 }
 
 /* All words of a text, as many as are kept. Returns 0, or 1 after a message. */
@@ -143,14 +172,12 @@ static int take_numbers(struct text *text, struct numbers *numbers)
 {
     text->next = getc(text->file);
     skip_to_word(text);
-    while (text->next != EOF && numbers->count < NUMBERS_KEPT) {
+    int failed = text->next == EOF ? 0 : take_first(text, numbers);
+    while (!failed && text->next != EOF && numbers->count < NUMBERS_KEPT) {
         struct word word = next_word(text);
-        if (take_number(text, &word, numbers) != 0) {
-            return 1;
-        }
-        skip_to_word(text);
+        failed = take_number(text, &word, numbers);
     }
-    return 0;
+    return failed;
 }
 
 int read_numbers(const char *path, const char *name, struct numbers *numbers)
@@ -160,6 +187,7 @@ int read_numbers(const char *path, const char *name, struct numbers *numbers)
     if (text.file == NULL) {
         return complain(name, "the file cannot be opened", errno);
     }
+    numbers->opening = OPENING_UNSAID;
     numbers->count = 0;
     int failed = take_numbers(&text, numbers);
     int is_unreadable = ferror(text.file);

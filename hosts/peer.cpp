@@ -38,6 +38,7 @@
 
 namespace {
 
+const uint32_t OPENING = 1;      /* records have no W, as no vector is stopped */
 const int32_t CLIP = 16777215;   /* the largest C that a record may have */
 const int32_t SHARE = 17043520;  /* the largest D */
 const int32_t DIAGONAL_MAX = 2047;
@@ -391,7 +392,7 @@ std::vector<Bytes> make_records(const Shape &shape, const std::vector<Reception>
             append(numbers, shape, receptions[at]);
         }
         Bytes record(GECKONEEDLE_RECORD_MAX);
-        int64_t length = geckoneedle_write(numbers.data(), numbers.size(), record.data(), record.size());
+        int64_t length = geckoneedle_write(OPENING, numbers.data(), numbers.size(), record.data(), record.size());
         if (length < 0) {
             fail(shape.name() + ": the library makes no record of the numbers, but refuses them by " + std::to_string(-length));
         }

@@ -1,6 +1,7 @@
 /*
- * record [-o RECORD] [NUMBERS]: makes a block record of a text of its whole numbers. The text is standard input where no file is named, and
- * the record goes to standard output where no -o is given. geckoneedle.h says which numbers in which order, numbers.h how they are written.
+ * record [-o RECORD] [NUMBERS]: makes a block record of a text of its opening and its whole numbers. The text is standard input where no file
+ * is named, and the record goes to standard output where no -o is given. geckoneedle.h says which numbers in which order, numbers.h how they
+ * are written.
  * record -n RECORD: the way back, a record's numbers as a text, with comments that say what is what.
  *
  * A text or record that is refused is said on standard error, with the place and the reason, and then no file is made or altered.
@@ -17,18 +18,24 @@
 #include "numbers.h"
 #include "reading.h"
 
+/* The record of the list's first `count` numbers, or minus the refusal's number. Which openings there are is the library's to say. */
+static int64_t write_first(const struct numbers *list, size_t count, uint8_t *record, size_t room)
+{
+    return geckoneedle_write((uint32_t)list->opening, list->values, count, record, room);
+}
+
 /*
- * The index of the number for which a list is refused, by another refusal than 2. geckoneedle_write checks number by number, and the first check
- * that fails decides. So a beginning of the list that has the refused number is refused as the whole list is, and one that ends before it is not:
- * all its numbers pass, and it gets 2 where M, Q and N call for more, else 14, since it is lent no memory. (crates/records/proofs/Beginnings.antt
- * has the proof.) The number is the last of the shortest beginning that is refused as the whole list is, and no range is checked here a second
- * time. These are at most as many calls as a record has numbers.
+ * The index of the number for which a list is refused, by another refusal than 1 and 2. geckoneedle_write checks number by number, and the first
+ * check that fails decides. So under the same opening a beginning of the list that has the refused number is refused as the whole list is, and
+ * one that ends before it is not: all its numbers pass, and it gets 2 where M, Q and N call for more, else 14, since it is lent no memory.
+ * (crates/records/proofs/Beginnings.antt has the proof.) The number is the last of the shortest beginning that is refused as the whole list is,
+ * and no range is checked here a second time. These are at most as many calls as a record has numbers.
  */
 static size_t refused_index(const struct numbers *list, int64_t refusal)
 {
     uint8_t none[1];
     size_t index = 0;
-    while (index + 1 < list->count && geckoneedle_write(list->values, index + 1, none, 0) != -refusal) {
+    while (index + 1 < list->count && write_first(list, index + 1, none, 0) != -refusal) {
         index++;
     }
     return index;
@@ -43,7 +50,25 @@ static void explain_end(const char *name, const struct numbers *list)
         unsigned long line = list->positions[list->count - 1].line;
         fprintf(stderr, "%s: the numbers end after number %zu (line %lu), and number %zu is due: ", name, list->count, line, list->count + 1);
     }
-    print_place(stderr, list->count, list->values);
+    print_place(stderr, (uint32_t)list->opening, list->count, list->values);
+}
+
+/* The opening is none that the library knows. */
+static void explain_opening(const char *name, const struct numbers *list)
+{
+    struct position at = list->opening_position;
+    fprintf(stderr, "%s: line %lu, column %lu: the opening is %" PRId32 ": it must be %s", name, at.line, at.column, list->opening,
+            geckoneedle_range_text(GECKONEEDLE_REFUSED_OPENING));
+}
+
+/* The number before it that a range goes by, if it goes by one. */
+static void explain_bound(const struct numbers *list, int64_t refusal)
+{
+    if (refusal == GECKONEEDLE_REFUSED_SHARE || refusal == GECKONEEDLE_REFUSED_FOUR_WIDE) {
+        fprintf(stderr, ", and M is %" PRId32, list->values[0]);
+    } else if (refusal == GECKONEEDLE_REFUSED_WEAK_VALUE) {
+        fprintf(stderr, ", and C is %" PRId32, list->values[3]);
+    }
 }
 
 /* A number is outside its range, or one too many. */
@@ -57,17 +82,17 @@ static void explain_number(const char *name, const struct numbers *list, int64_t
         return;
     }
     fprintf(stderr, "is %" PRId32 ": ", list->values[index]);
-    print_place(stderr, index, list->values);
+    print_place(stderr, (uint32_t)list->opening, index, list->values);
     fprintf(stderr, ": it must be %s", geckoneedle_range_text(refusal));
-    if (refusal == GECKONEEDLE_REFUSED_SHARE || refusal == GECKONEEDLE_REFUSED_FOUR_WIDE) {
-        fprintf(stderr, ", and M is %" PRId32, list->values[0]);
-    }
+    explain_bound(list, refusal);
 }
 
 /* Says why a list is refused. Returns 1. */
 static int explain(const char *name, const struct numbers *list, int64_t refusal)
 {
-    if (refusal == GECKONEEDLE_REFUSED_ENDS) {
+    if (refusal == GECKONEEDLE_REFUSED_OPENING) {
+        explain_opening(name, list);
+    } else if (refusal == GECKONEEDLE_REFUSED_ENDS) {
         explain_end(name, list);
     } else if (refusal == GECKONEEDLE_REFUSED_TRAILING || geckoneedle_range_text(refusal) != NULL) {
         explain_number(name, list, refusal);
@@ -102,7 +127,7 @@ static int make_record(const char *text, const char *path)
     if (read_numbers(text, name, &list) != 0) {
         return 1;
     }
-    int64_t returned = geckoneedle_write(list.values, list.count, record, sizeof record);
+    int64_t returned = write_first(&list, list.count, record, sizeof record);
     if (returned < 0) {
         return explain(name, &list, -returned);
     }
@@ -122,7 +147,7 @@ static int show_numbers(const char *path)
         fprintf(stderr, "%s: refused by %" PRId64 ": %s\n", path, -returned, geckoneedle_refusal_text(-returned));
         return 1;
     }
-    print_text(numbers);
+    print_text(record.bytes[3] - (uint32_t)0x30, numbers);
     if (fflush(stdout) != 0 || ferror(stdout)) {
         fprintf(stderr, "record: the output cannot be written\n");
         return 1;

@@ -4,16 +4,20 @@
 # installed tree, and what the Makefile proves again and what not. Says what is wrong and ends with status 1, or ends with 0.
 set -eu
 cd "$(dirname "$0")/.."
-made="example stopped priors signed-priors full full-stopped wide"
+made="example stopped priors signed-priors full full-stopped wide weaker"
+refused="refused refused-wide refused-weak"
 written="bench tie points"
 broken="empty other-opening cut trailing"
-samples=$(for name in $made refused refused-wide $written $broken; do echo samples/$name.rec; done)
+samples=$(for name in $made $refused $written $broken; do echo samples/$name.rec; done)
 short=$(for name in $made $written; do echo samples/$name.rec; done | grep -v full)
 
-# The longest record's bytes and numbers, by the samples. The C side has them in geckoneedle.h and nowhere else, and must agree.
+# The refusals that a record can meet.
+refusals="1 2 3 4 5 6 7 8 9 10 11 12 13 15 16"
+
+# The longest record's bytes and numbers, by the samples: full is as large a block, without a W. The C side has them in geckoneedle.h and nowhere
+# else, and must agree.
 longest=$(($(wc -c <samples/too-long.rec) - 1))
-most=$(($(sed 's/#.*//' samples/full.numbers | wc -w)))
-lines=$(($(wc -l <samples/full.numbers)))
+most=$(($(sed 's/#.*//' samples/full.numbers | wc -w) + 1))
 
 fail() {
     echo "hosts: $1"
@@ -145,12 +149,12 @@ expect 1 "the samples" build/detect $samples
 same hosts/expected/samples build/printed "the samples"
 expect 0 "accepted samples" build/detect samples/example.rec samples/full.rec samples/wide.rec
 
-# Every refusal in words: 1 to 13 and 15 by a record each, 14 by a buffer that is a byte short.
+# Every refusal in words: 14 by a buffer that is a byte short, the others by a record each.
 mkdir -p build/refusals
 cargo run --quiet --offline --release --manifest-path rust/Cargo.toml --bin samples -- --refusals build/refusals ||
     fail "the records for the refusals cannot be made"
 : >build/refusals/printed
-for number in 1 2 3 4 5 6 7 8 9 10 11 12 13 15; do
+for number in $refusals; do
     expect 1 "refusal $number" build/detect "build/refusals/$number.rec"
     sed "s|^build/refusals/||" build/printed >>build/refusals/printed
 done
@@ -186,17 +190,41 @@ complains "samples/refused.numbers: line 13, column 1: number 25 is 1048576: vec
 expect 1 "the numbers of refused-wide" build/record samples/refused-wide.numbers
 complains "samples/refused-wide.numbers: line 1, column 3: number 2 is 8: Q, the bits of a symbol:\
  it must be 1, 2, 4 or 6, since at most three streams may have 8, and M is 4 (refused by 15)" "the numbers of refused-wide"
+expect 1 "the numbers of refused-weak" build/record samples/refused-weak.numbers
+complains "samples/refused-weak.numbers: line 2, column 10: number 5 is 11: W, the weak value: it must be 0 to C, and C is 10 (refused by 16)" \
+    "the numbers of refused-weak"
 
 # The example in other words: signs, zeros in front, tabs, carriage returns, a comment right behind a number, no end of the last line.
 printf '+2\t01 %01000d 10 3# sizes\r\n1 1 -0 1\r\n1 0 -1 0 0 0 \r\n\r\n\t# again\n1 1 0 1 1 0 -0001 +0 0 0' 2 >build/list.numbers
 expect 0 "the example in other words" build/record build/list.numbers
 same samples/example.rec build/printed "the example in other words"
 
-# One number more than any record has, and what is behind it does not matter.
-{ cat samples/full.numbers && echo "4 abc"; } >build/list.numbers
+# The opening in other words: said where it need not be, and not alone on the first line.
+{ echo "opening 1" && cat samples/example.numbers; } >build/list.numbers
+expect 0 "the example with its opening" build/record build/list.numbers
+same samples/example.rec build/printed "the example with its opening"
+{ printf '# weaker\r\n\n\topening# 2\n +02\t' && sed 1d samples/weaker.numbers; } >build/list.numbers
+expect 0 "an opening in other words" build/record build/list.numbers
+same samples/weaker.rec build/printed "an opening in other words"
+
+# A full block with a W: as many numbers as any record has. One more, and what is behind it does not matter.
+{ echo "opening 2" && sed '1s/[0-9]* *# M Q N C D/0 &/; 1s/N C D/N C W D/' samples/full.numbers; } >build/full.numbers
+expect 0 "a full block with a W" build/record -o build/full.rec build/full.numbers
+expect 0 "the numbers of a full block with a W" build/record -n build/full.rec
+same build/full.numbers build/printed "the numbers of a full block with a W"
+lines=$(($(wc -l <build/full.numbers)))
+{ cat build/full.numbers && echo "4 abc"; } >build/list.numbers
 expect 1 "a number more than any record has" build/record build/list.numbers
 complains "build/list.numbers: line $((lines + 1)), column 1: number $((most + 1)) follows the last prior;\
  M, Q and N call for $most numbers (refused by 13)" "a number more than any record has"
+
+# The longest record, there and back.
+head -c "$longest" samples/too-long.rec >build/longest.rec
+expect 0 "the numbers of the longest record" build/record -n build/longest.rec
+cp build/printed build/longest.numbers
+[ "$(sed '1d; s/#.*//' build/longest.numbers | wc -w)" -eq "$most" ] || fail "the longest record does not have $most numbers"
+expect 0 "the longest record" build/record build/longest.numbers
+same build/longest.rec build/printed "the longest record"
 
 # Standard input; and a file for the record, which is made, replaced, or left as it is.
 expect 0 "standard input" build/record <samples/bench.numbers
@@ -246,7 +274,7 @@ done
 
 # Every refusal of a record in the words that build/detect has for it.
 : >build/refusals/complaints
-for number in 1 2 3 4 5 6 7 8 9 10 11 12 13 15; do
+for number in $refusals; do
     expect 1 "the numbers of a record refused by $number" build/record -n "build/refusals/$number.rec"
     sed "s|^build/refusals/||" build/complaints >>build/refusals/complaints
 done

@@ -6,8 +6,9 @@ use crate::inputs::Group;
 use std::fmt::Debug;
 use std::thread;
 
-/// A call that fills lent memory: how many entries it wrote, or minus the refusal number.
-pub type Call<Given, Entry> = fn(given: &[Given], lent: &mut [Entry]) -> i64;
+/// A call that fills lent memory: how many entries it wrote, or minus the refusal number. It is given a record's bytes, or a list and
+/// its opening.
+pub type Call<Given, Entry> = fn(given: &Given, lent: &mut [Entry]) -> i64;
 
 /// What a call returned, and what was lent to it afterwards.
 pub type Outcome<Entry> = (i64, Vec<Entry>);
@@ -37,9 +38,9 @@ fn before<Entry: Lent>(length: usize) -> Vec<Entry> {
 }
 
 /// What comes of a call with so much lent to it.
-pub fn outcome<Given, Entry: Lent>(
-    call: impl Fn(&[Given], &mut [Entry]) -> i64,
-    given: &[Given],
+pub fn outcome<Given: ?Sized, Entry: Lent>(
+    call: impl Fn(&Given, &mut [Entry]) -> i64,
+    given: &Given,
     length: usize,
 ) -> Outcome<Entry> {
     let mut lent = before(length);
@@ -47,19 +48,19 @@ pub fn outcome<Given, Entry: Lent>(
 }
 
 /// Do two calls come to the same with each length?
-pub fn agree<Given, Entry: Lent>(
-    one: impl Fn(&[Given], &mut [Entry]) -> i64,
-    other: impl Fn(&[Given], &mut [Entry]) -> i64,
-    given: &[Given],
+pub fn agree<Given: ?Sized, Entry: Lent>(
+    one: impl Fn(&Given, &mut [Entry]) -> i64,
+    other: impl Fn(&Given, &mut [Entry]) -> i64,
+    given: &Given,
     lengths: impl IntoIterator<Item = usize>,
 ) -> bool {
     lengths.into_iter().all(|length| outcome(&one, given, length) == outcome(&other, given, length))
 }
 
 /// Holds a call to the entries that it is to write, or to the refusal; nothing else is altered.
-pub fn expect<Given: Debug, Entry: Lent>(
+pub fn expect<Given: Debug + ?Sized, Entry: Lent>(
     call: Call<Given, Entry>,
-    given: &[Given],
+    given: &Given,
     length: usize,
     expected: Result<&[Entry], Refusal>,
 ) {
@@ -71,10 +72,10 @@ pub fn expect<Given: Debug, Entry: Lent>(
 
 /// Holds a call to another with each length, of which the first just does: behind what they wrote nothing is altered; with less,
 /// what was accepted is refused by 14, and with more the same is returned. What comes of the first length.
-pub fn same<Given: Debug, Entry: Lent>(
+pub fn same<Given: Debug + ?Sized, Entry: Lent>(
     call: Call<Given, Entry>,
     other: Call<Given, Entry>,
-    given: &[Given],
+    given: &Given,
     lengths: impl IntoIterator<Item = usize>,
 ) -> Outcome<Entry> {
     let mut lengths = lengths.into_iter();
@@ -87,10 +88,10 @@ pub fn same<Given: Debug, Entry: Lent>(
     first
 }
 
-fn same_at<Given: Debug, Entry: Lent>(
+fn same_at<Given: Debug + ?Sized, Entry: Lent>(
     call: Call<Given, Entry>,
     other: Call<Given, Entry>,
-    given: &[Given],
+    given: &Given,
     length: usize,
 ) -> Outcome<Entry> {
     let (returned, lent) = outcome(call, given, length);

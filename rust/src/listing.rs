@@ -11,7 +11,7 @@ pub fn listing(record: &[u8]) -> String {
         Ok(block) => block,
         Err(refusal) => return format!("refused {refusal}\n"),
     };
-    let Block { streams, bits, clip, share, vectors } = &block;
+    let Block { streams, bits, clip, share, vectors, .. } = &block;
     let answers = answers(&block);
     let mut lines = vec![format!("streams {streams} bits {bits} vectors {} clip {clip} share {share}", vectors.len())];
     for (index, (vector, answer)) in vectors.iter().zip(&answers).enumerate() {
@@ -76,7 +76,7 @@ fn plural(count: usize) -> &'static str {
 /// Document 01's table in words, and document 02's refusals.
 pub fn reason(refusal: Refusal) -> &'static str {
     match refusal {
-        1 => "the first four bytes are missing or are not 43 42 52 31",
+        1 => "the first four bytes are missing or are neither 43 42 52 31 nor 43 42 52 32",
         2 => "the record ends before the last group of a number",
         3 => "a number has four groups and no last one, or ends in a group of 0 that it does not need",
         4 => "the number of streams M is not 1 to 4",
@@ -91,6 +91,7 @@ pub fn reason(refusal: Refusal) -> &'static str {
         13 => "bytes follow the last prior",
         14 => "the reply buffer is shorter than 7 + N x (9 + 4 x M x Q) bytes",
         15 => "the bits of a symbol Q are 8, which at most three streams may have, and M is 4",
+        16 => "the weak value W is not 0 to C",
         _ => panic!("the documents have no refusal {refusal}"),
     }
 }
@@ -98,12 +99,22 @@ pub fn reason(refusal: Refusal) -> &'static str {
 #[cfg(test)]
 mod tests {
     use super::*;
-    use crate::inputs::readings::{LISTING, LISTING_RECORD};
+    use crate::inputs::readings::{LISTING, LISTING_RECORD, WEAK_RECORD};
 
     #[test]
     fn the_listing_of_document_01() {
         assert_eq!(listing(&LISTING_RECORD), LISTING);
         assert_eq!(listing(&LISTING_RECORD[..8]), "refused 2\n");
+    }
+
+    /// W is not printed, only what it makes of the values.
+    #[test]
+    fn the_listing_of_a_record_with_w() {
+        assert_eq!(listing(&WEAK_RECORD), "streams 2 bits 1 vectors 1 clip 10 share 4\n1 stopped 4 2 0 -8 7\ntotal 4\n");
+        assert_eq!(
+            host_lines("a.rec", &WEAK_RECORD).lines().nth(1),
+            Some("  vector 1: stopped after 4 nodes, label 2, soft values -8 7")
+        );
     }
 
     /// Priors -1, 0, 2, 3 for the label 0110: the first and the third bit go against them.

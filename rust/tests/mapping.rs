@@ -55,6 +55,16 @@ fn a_sent_point_is_found_in_every_stream() {
     }
 }
 
+/// W makes nothing of that: one side of every bit is cut, and none is empty.
+#[test]
+fn a_sent_point_has_nothing_of_w() {
+    for reception in receptions(4).into_iter().map(|reception| reception.with_weak(0)) {
+        for detect in [plain::detect, fast::detect] {
+            assert_eq!(reception.check(detect), reception.block.streams as i64, "{}", reception.sent);
+        }
+    }
+}
+
 /// The soft values are those that the tables' points have. With more streams the plain detector would take too long.
 #[test]
 fn soft_values_are_those_of_the_tables() {

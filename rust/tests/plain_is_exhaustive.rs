@@ -1,9 +1,10 @@
-//! The plain detector against all labels: demand 2 for complete vectors, and demand 3's counts.
+//! The plain detector against all labels: demand 2 for complete vectors, whatever W is, and demand 3's counts.
 
 use reference::detectors::{exhaustive, plain};
 use reference::format::block::Block;
+use reference::format::encoding::Opening;
 use reference::inputs::chance::Chance;
-use reference::inputs::channel::{any_block, Plan, Sizes};
+use reference::inputs::channel::{any_block, opened, Plan, Sizes};
 use reference::inputs::trials::{self, SMALL_TREES};
 
 /// M and Q with twelve and with sixteen label bits.
@@ -34,7 +35,8 @@ fn complete_of_any(seed: u64, turns: usize, shapes: &[(usize, usize)], share: i6
         let (streams, bits) = shapes[turn % shapes.len()];
         let sizes = chance.one_of(&[Sizes::TIES, Sizes::PRIORS, Sizes::FULL]);
         let vectors = chance.between(1, 3) as usize;
-        any_block(&mut chance, streams, bits, vectors, share, sizes)
+        let block = any_block(&mut chance, streams, bits, vectors, share, sizes);
+        opened(block, Opening::ALL[turn % Opening::ALL.len()], &mut chance)
     };
     (0..turns).map(block).map(|block| complete(&block)).sum()
 }

@@ -1,12 +1,14 @@
-//! Document 01's bench readings, edges and listing, run through both detectors.
+//! Document 01's bench readings, edges and listing, and readings of document 02's points, run through both detectors.
 
 use reference::comparison::expect;
 use reference::detectors::{exhaustive, fast, plain, Detector};
 use reference::format::block::Block;
-use reference::format::encoding::{encode, unfold, OPENING};
+use reference::format::encoding::{unfold, Contents, Opening};
 use reference::format::record::{read, Refusal};
 use reference::format::reply::{self, Answer};
-use reference::inputs::readings::{answer, starred, two_streams, LISTING_RECORD, LISTING_REPLY};
+use reference::inputs::readings::{
+    answer, starred, two_streams, weak, weak_reading, weakened, LISTING_RECORD, LISTING_REPLY, WEAK_RECORD, WEAK_REPLY,
+};
 use reference::inputs::{cases, eq_31};
 
 const DETECTORS: [Detector; 2] = [plain::detect, fast::detect];
@@ -20,8 +22,9 @@ fn replies(record: &[u8], room: usize, reply: &[u8]) {
     }
 }
 
-fn answers(block: &Block, answer: Answer) {
-    replies(&block.record(), block.room(), &reply::encode(block, &[answer]));
+fn answers(contents: &Contents, answers: &[Answer]) {
+    let block = Block::of(contents);
+    replies(&contents.record(), block.room(), &reply::encode(&block, answers));
 }
 
 fn refuses(record: &[u8], length: usize, refusal: Refusal) {
@@ -31,7 +34,7 @@ fn refuses(record: &[u8], length: usize, refusal: Refusal) {
 #[test]
 fn the_ten_starred_readings() {
     for reading in starred() {
-        answers(&Block::of(&reading.numbers), reading.answer);
+        answers(&reading.contents, &reading.answers);
     }
 }
 
@@ -44,11 +47,11 @@ fn the_metrics_of_the_two_stream_vector() {
 
 #[test]
 fn the_edges() {
-    let record = |clip: i64, share: i64| encode(&two_streams(clip, share));
+    let record = |clip: i64, share: i64| two_streams(clip, share).record();
     refuses(&record(10, 1), 24, 8);
-    answers(&Block::of(&two_streams(10, 2)), answer(true, 2, 2, [-10, 10]));
+    answers(&two_streams(10, 2), &[answer(true, 2, 2, [-10, 10])]);
     refuses(&record(16_777_216, 5), 24, 7);
-    answers(&Block::of(&two_streams(16_777_215, 5)), answer(false, 5, 2, [-4, 4]));
+    answers(&two_streams(16_777_215, 5), &[answer(false, 5, 2, [-4, 4])]);
     assert_eq!(Block::of(&two_streams(10, 5)).room(), 24);
     refuses(&record(10, 5), 23, 14);
     refuses(&record(10, 5), 0, 14);
@@ -72,31 +75,63 @@ fn a_clip_at_each_new_best_leaf_would_be_wrong() {
     for (label, metric) in eq_31::METRICS.into_iter().enumerate() {
         assert_eq!(exhaustive::metric(&block, &block.vectors[0], label), metric);
     }
-    eq_31::cases().for_each(|(block, answer)| answers(&block, answer));
+    eq_31::cases().for_each(|(block, answer)| answers(&block.contents(), &[answer]));
 }
 
 /// Document 02, Point 1: 15 when Q is 8 and M is 4, after 5 and before anything of N; Q = 8 itself is accepted.
 #[test]
 fn eight_bits_with_four_streams() {
-    let opened = |sizes: &[u8]| [&OPENING, sizes].concat();
-    for after in [&[] as &[u8], &[0x00], &[0x41], &[0x80], &[0x80, 0x00], &[0x01, 0x05, 0x04]] {
-        refuses(&opened(&[&[0x04, 0x08], after].concat()), 64, 15);
+    for opening in Opening::ALL {
+        let opened = |sizes: &[u8]| [&opening.bytes(), sizes].concat();
+        for after in [&[] as &[u8], &[0x00], &[0x41], &[0x80], &[0x80, 0x00], &[0x01, 0x05, 0x04]] {
+            refuses(&opened(&[&[0x04, 0x08], after].concat()), 64, 15);
+        }
+        for bits in [0, 3, 5, 7, 9, 10, 127] {
+            refuses(&opened(&[0x04, bits]), 64, 5);
+        }
+        refuses(&opened(&[0x05, 0x08]), 64, 4);
+        refuses(&opened(&[0x03, 0x08]), 64, 2);
     }
-    for bits in [0, 3, 5, 7, 9, 10, 127] {
-        refuses(&opened(&[0x04, bits]), 64, 5);
+}
+
+/// Document 02, Point 4: a stopped vector's bit with one empty side gets W, and nothing else does.
+#[test]
+fn the_readings_with_w() {
+    for reading in weakened() {
+        answers(&reading.contents, &reading.answers);
     }
-    refuses(&opened(&[0x05, 0x08]), 64, 4);
-    refuses(&opened(&[0x03, 0x08]), 64, 2);
+    replies(&WEAK_RECORD, 24, &WEAK_REPLY);
+    refuses(&WEAK_RECORD, 23, 14);
+}
+
+/// 16 when W is outside 0 to C, after 7 and before D; a number that is malformed is refused before it is ranged.
+#[test]
+fn the_edges_with_w() {
+    let bytes = |bytes: &[u8]| [&Opening::Two.bytes(), bytes].concat();
+    refuses(&weak(two_streams(10, 4), 11).record(), 24, 16);
+    refuses(&weak(two_streams(0, 4), 1).record(), 24, 16);
+    refuses(&weak(two_streams(10, 1), 11).record(), 24, 16);
+    refuses(&weak(two_streams(10, 1), 10).record(), 24, 8);
+    refuses(&weak(two_streams(16_777_216, 4), 16_777_217).record(), 24, 7);
+    refuses(&bytes(&[0x01, 0x01, 0x01, 0x05, 0x85, 0x00]), 24, 3);
+    refuses(&bytes(&[0x01, 0x01, 0x01, 0x05]), 24, 2);
+    for length in 0..WEAK_RECORD.len() {
+        refuses(&WEAK_RECORD[..length], 24, if length < 4 { 1 } else { 2 });
+    }
+    for last in [0x30, 0x33, 0x34] {
+        refuses(&[&[0x43, 0x42, 0x52, last], &WEAK_RECORD[4..]].concat(), 24, 1);
+    }
+    assert_eq!(weak_reading().numbers, [2, 1, 1, 10, 7, 4, 1, 1, 0, 1, 1, 0, -1, 0, 0, 0]);
 }
 
 /// M = 1, Q = 8, R = 1, y = 15 - 13i, C = 2: the point 1000 0001 is met, the label 129. Each axis' nearest other point is 4 away in
 /// squared distance, so that C clips every value, and one node is walked.
 #[test]
 fn a_point_of_256() {
-    let block = Block::of(&[[1, 8, 1, 2, 2, 1, 15, -13].as_slice(), &[0; 8]].concat());
-    assert_eq!(block.room(), 48);
-    answers(&block, answer(false, 1, 129, [-2, 2, 2, 2, 2, 2, 2, -2]));
-    refuses(&block.record(), 47, 14);
+    let contents = Contents { opening: Opening::One, numbers: [[1, 8, 1, 2, 2, 1, 15, -13].as_slice(), &[0; 8]].concat() };
+    assert_eq!(Block::of(&contents).room(), 48);
+    answers(&contents, &[answer(false, 1, 129, [-2, 2, 2, 2, 2, 2, 2, -2])]);
+    refuses(&contents.record(), 47, 14);
 }
 
 #[test]

@@ -2,8 +2,8 @@
 //! with any slip some record tells.
 //!
 //! It keeps 000's list (the best label, its metric, an extrinsic metric for each bit) in place of the leaves. The slips are what
-//! document 01 says that the pruning papers invite, the frauds of its Agreement, what the 256 points of document 02 invite, and the
-//! likely ones beside them.
+//! document 01 says that the pruning papers invite, the frauds of its Agreement, what the 256 points and the weak value of document 02
+//! invite, and the likely ones beside them. Its reader goes by the places that `encoding` has.
 
 #[macro_use]
 mod slips;
@@ -11,10 +11,11 @@ mod slips;
 use reference::comparison;
 use reference::detectors::plain::{self, Leaf};
 use reference::format::block::{Block, Complex, Vector};
-use reference::format::encoding::Numbers;
-use reference::format::record::{check_width, read, read_by, Refusal};
+use reference::format::encoding::{plain as plain_form, unfold, Contents, Numbers, Opening, Place};
+use reference::format::record::{check_width, read, read_plain, Refusal};
 use reference::format::reply::{self, Answer};
 use reference::inputs::eq_31;
+use reference::inputs::numbers::{range, row};
 use reference::inputs::trials::{self, Trial};
 use slips::is_seen_often;
 
@@ -65,8 +66,33 @@ slips! {
         /// Two entries of the table of 256 points are exchanged: here -1 - i and -1 + i.
         PointsExchanged(usize, usize) in [PointsExchanged(0b0100_0100, 0b0100_1100)],
     }
+    /// What W invites in the search, and in the reply.
+    weak_slips {
+        /// An empty side has C.
+        WeakForgotten,
+        /// The walk's limits go by W.
+        WeakInLimits,
+        /// A complete vector's side that was cut whole has W too.
+        WeakWhenComplete,
+        /// Every vector behind a stopped one has W for an empty side, complete or not.
+        WeakFromFirstStop,
+        /// A stopped vector's value of both sides is clipped by W.
+        WeakClips,
+        /// A stopped vector's value of both sides that is clipped has W.
+        WeakForClipped,
+        /// +W for -W and the other way round.
+        EmptySideTurned,
+        /// +W, whichever side is empty.
+        EmptySidePlus,
+        /// The prior is taken off W.
+        PriorOffWeak,
+        /// The reply's opening has the record's last byte.
+        OpeningInReply,
+        /// The reply has W behind N.
+        WeakInReply,
+    }
     /// Slips of the reader alone, as the 256 points invite them.
-    reading_slips {
+    width_slips {
         /// 15 is checked before 5: four streams with Q = 9 are refused by 15.
         FourStreamsFirst,
         /// 15 is checked when the record has been read.
@@ -78,28 +104,132 @@ slips! {
         /// Q = 8 is refused as before, whatever M is.
         EightRefused,
     }
-}
-
-/// The reader, with what a slip makes of its check of Q.
-fn read_with(slip: Slip, record: &[u8]) -> Result<Numbers, Refusal> {
-    match slip {
-        FourStreamsFirst => {
-            read_by(|streams, bits| if streams == 4 { older(bits).map_err(|_| 15) } else { five_alone(streams, bits) }, record)
-        }
-        FourStreamsLast => {
-            let numbers = read_by(five_alone, record)?;
-            check_width(numbers[0], numbers[1]).map(|()| numbers)
-        }
-        FourStreamsAccepted => read_by(five_alone, record),
-        FourStreamsByFive => read_by(|streams, bits| check_width(streams, bits).map_err(|_| 5), record),
-        EightRefused => read_by(|_, bits| older(bits), record),
-        _ => read(record),
+    /// Slips of the reader alone, as W and its opening invite them.
+    opening_slips {
+        /// 16 is checked before 7: where C is out of range, W is looked at.
+        WeakBeforeClip,
+        /// 16 is checked after 8.
+        WeakAfterShare,
+        /// 16 is checked when the record has been read.
+        WeakLast,
+        /// W above C is no fault at all.
+        WeakAccepted,
+        /// It is refused by 7.
+        WeakBySeven,
+        /// W is held to this C, another record's or the greatest, and not to the record's own.
+        WeakTo(i64) in [0, 10, 16_777_215].map(WeakTo),
+        /// W must be below C.
+        WeakBelowClip,
+        /// W must be above 0.
+        WeakAboveZero,
+        WeakFolded,
+        /// D is read in W's place, and W in D's.
+        ShareBeforeWeak,
+        /// A record that opens 43 42 52 32 has no W.
+        TwoWithoutWeak,
+        /// It is refused by 1, as before.
+        TwoRefused,
+        /// An older record has W too.
+        OneWithWeak,
+        /// The last byte of the opening is not looked at, where it is neither 31 nor 32.
+        UnknownTaken(Opening) in Opening::ALL.map(UnknownTaken),
     }
 }
 
-/// The check of Q for one stream, which is never refused by 15.
-fn five_alone(_streams: i64, bits: i64) -> Result<(), Refusal> {
-    check_width(1, bits)
+/// The reader, place by place.
+fn read_with(slip: Slip, record: &[u8]) -> Result<Contents, Refusal> {
+    let opening = opening_with(slip, record).ok_or(1_u32)?;
+    let mut rest = &record[Opening::LENGTH..];
+    let mut numbers = Numbers::new();
+    let mut take = |place: Place, numbers: &mut Numbers| -> Result<(), Refusal> {
+        let number = read_plain(&mut rest)?;
+        let is_folded = place.is_folded() != (slip == WeakFolded && place == Place::Weak);
+        let number = if is_folded { unfold(number) } else { number };
+        check_with(slip, opening, place, numbers, number)?;
+        numbers.push(number);
+        Ok(())
+    };
+    for &place in &opening.sizes()[..3] {
+        take(place, &mut numbers)?;
+    }
+    for &place in &places_with(slip, opening, &numbers)[3..] {
+        take(place, &mut numbers)?;
+    }
+    if !rest.is_empty() {
+        return Err(13);
+    }
+    match slip {
+        FourStreamsLast => check_width(numbers[0], numbers[1])?,
+        WeakLast if opening.has_weak() => check_weak(numbers[3], numbers[4])?,
+        ShareBeforeWeak if opening.has_weak() => numbers.swap(4, 5),
+        _ => (),
+    }
+    Ok(Contents { opening, numbers })
+}
+
+/// The opening as it is taken: it has the layout that the slip gives it.
+fn opening_with(slip: Slip, record: &[u8]) -> Option<Opening> {
+    match (slip, Opening::of(record)) {
+        (TwoWithoutWeak, Some(Opening::Two)) => Some(Opening::One),
+        (TwoRefused, Some(Opening::Two)) => None,
+        (OneWithWeak, Some(Opening::One)) => Some(Opening::Two),
+        (UnknownTaken(opening), None) if record.len() >= 4 && record.starts_with(&[0x43, 0x42, 0x52]) => Some(opening),
+        (_, opening) => opening,
+    }
+}
+
+/// The places that M, Q and N call for.
+fn places_with(slip: Slip, opening: Opening, numbers: &[i64]) -> Vec<Place> {
+    let mut places = opening.places(numbers[0], numbers[1], numbers[2]);
+    if slip == ShareBeforeWeak && opening.has_weak() {
+        places.swap(4, 5);
+    }
+    places
+}
+
+/// A number as soon as it is read.
+fn check_with(slip: Slip, opening: Opening, place: Place, before: &[i64], number: i64) -> Result<(), Refusal> {
+    match (slip, place) {
+        (_, Place::Bits) => check_width_with(slip, before[0], number),
+        (WeakBeforeClip, Place::Clip) if opening.has_weak() => Ok(()),
+        (WeakBeforeClip, Place::Weak) => check_weak(before[3], number).and_then(|()| within(Place::Clip, before, before[3])),
+        (WeakAfterShare, Place::Share) if opening.has_weak() => {
+            within(place, before, number).and_then(|()| check_weak(before[3], before[4]))
+        }
+        (WeakAfterShare | WeakLast | WeakAccepted, Place::Weak) => Ok(()),
+        (WeakBySeven, Place::Weak) => check_weak(before[3], number).map_err(|_| 7),
+        (WeakTo(clip), Place::Weak) => check_weak(clip, number),
+        (WeakBelowClip, Place::Weak) => check_weak(before[3] - 1, number),
+        (WeakAboveZero, Place::Weak) if number == 0 => Err(16),
+        _ => within(place, before, number),
+    }
+}
+
+fn within(place: Place, before: &[i64], number: i64) -> Result<(), Refusal> {
+    let (least, greatest) = range(place, before);
+    if (least..=greatest).contains(&number) {
+        Ok(())
+    } else {
+        Err(row(place))
+    }
+}
+
+fn check_weak(clip: i64, weak: i64) -> Result<(), Refusal> {
+    if weak <= clip {
+        Ok(())
+    } else {
+        Err(16)
+    }
+}
+
+fn check_width_with(slip: Slip, streams: i64, bits: i64) -> Result<(), Refusal> {
+    match slip {
+        FourStreamsFirst if streams == 4 => older(bits).map_err(|_| 15),
+        FourStreamsLast | FourStreamsAccepted => check_width(1, bits),
+        FourStreamsByFive => check_width(streams, bits).map_err(|_| 5),
+        EightRefused => older(bits),
+        _ => check_width(streams, bits),
+    }
 }
 
 /// The check of Q before the 256 points.
@@ -114,14 +244,19 @@ fn older(bits: i64) -> Result<(), Refusal> {
 fn detect(slip: Slip, record: &[u8], reply: &mut [u8]) -> i64 {
     let block = match read_with(slip, record) {
         Ok(_) if slip == RefusesAll => return -13,
-        Ok(numbers) => Block::of(&numbers),
+        Ok(contents) => Block::of(&contents),
         Err(refusal) => return -i64::from(refusal),
     };
     if reply.len() < block.room() {
         return -14;
     }
-    let bytes = reply::encode(&block, &answers(slip, &block));
-    if slip != BufferUntouched {
+    let mut bytes = reply::encode(&block, &answers(slip, &block));
+    match slip {
+        OpeningInReply => bytes[3] = record[3],
+        WeakInReply if block.opening.has_weak() => drop(bytes.splice(7..7, plain_form(block.weak))),
+        _ => (),
+    }
+    if slip != BufferUntouched && bytes.len() <= reply.len() {
         reply[..bytes.len()].copy_from_slice(&bytes);
     }
     bytes.len() as i64
@@ -140,7 +275,8 @@ fn answers(slip: Slip, block: &Block) -> Vec<Answer> {
             StoppedEarly => (count * block.share - spent - later * streams - 1).max(streams),
             _ => count * block.share - spent - later * streams,
         };
-        let answer = answer(slip, block, vector, allowance);
+        let has_stopped = all.iter().any(|answer: &Answer| answer.stopped);
+        let answer = answer(slip, block, vector, allowance, has_stopped);
         spent += answer.nodes;
         let nodes = if slip == CountIsShare { block.share } else { answer.nodes };
         all.push(Answer { nodes, ..answer });
@@ -148,17 +284,23 @@ fn answers(slip: Slip, block: &Block) -> Vec<Answer> {
     all
 }
 
-fn answer(slip: Slip, block: &Block, vector: &Vector, allowance: i64) -> Answer {
+fn answer(slip: Slip, block: &Block, vector: &Vector, allowance: i64, has_stopped: bool) -> Answer {
     let best = Leaf { label: 0, metric: INFINITE };
     let extrinsic = vec![INFINITE; block.label_bits()];
-    let mut walk = Walk { slip, block, vector, allowance, nodes: 0, stopped: false, best, extrinsic };
+    let mut walk = Walk { slip, block, vector, allowance, nodes: 0, stopped: false, best, extrinsic, ones: 0, zeros: 0 };
     walk.below(&[], 0);
     let stopped = match slip {
         MarkHidden => false,
         StoppedWhenFull => walk.stopped || walk.nodes == allowance,
         _ => walk.stopped,
     };
-    let values = (0..block.label_bits()).map(|bit| walk.soft_value(bit)).collect();
+    let is_weak = match slip {
+        WeakForgotten => false,
+        WeakWhenComplete => true,
+        WeakFromFirstStop => walk.stopped || has_stopped,
+        _ => walk.stopped,
+    };
+    let values = (0..block.label_bits()).map(|bit| walk.soft_value(bit, is_weak)).collect();
     Answer { stopped, nodes: walk.nodes, label: walk.best.label, values }
 }
 
@@ -173,6 +315,9 @@ struct Walk<'a> {
     best: Leaf,
     /// For each bit the least metric with it opposite to m's, less the prior that favours m's bit, and clipped from above.
     extrinsic: Vec<i64>,
+    /// The bits that are 1, and those that are 0, in some walked label.
+    ones: usize,
+    zeros: usize,
 }
 
 impl Walk<'_> {
@@ -246,11 +391,17 @@ impl Walk<'_> {
 
     /// The extrinsic metric, with the prior put back.
     fn limit(&self, bit: usize) -> i64 {
-        self.extrinsic[bit] + if self.slip == LimitWithoutPrior { 0 } else { self.prior_for(self.best.label, bit) }
+        let extrinsic = match self.slip {
+            WeakInLimits => self.extrinsic[bit].min(self.best.metric + self.block.weak),
+            _ => self.extrinsic[bit],
+        };
+        extrinsic + if self.slip == LimitWithoutPrior { 0 } else { self.prior_for(self.best.label, bit) }
     }
 
     /// 000's list administration, with document 01's order of equal metrics.
     fn take_leaf(&mut self, leaf: Leaf) {
+        self.ones |= leaf.label;
+        self.zeros |= !leaf.label;
         let before = self.best;
         let is_smaller = (leaf.label < before.label) == (self.slip != LargerLabelOnTie);
         let is_best = leaf.metric < before.metric || (leaf.metric == before.metric && is_smaller);
@@ -273,11 +424,24 @@ impl Walk<'_> {
         }
     }
 
-    fn soft_value(&self, bit: usize) -> i64 {
-        let (clip, prior) = (self.block.clip, self.vector.priors[bit]);
-        let is_one = self.best.label & self.block.mask(bit) != 0;
-        let sign = if is_one { -1 } else { 1 };
+    /// A bit's value, where an empty side has W or, as in a complete vector, C.
+    fn soft_value(&self, bit: usize, is_weak: bool) -> i64 {
+        let (clip, prior, mask) = (self.block.clip, self.vector.priors[bit], self.block.mask(bit));
+        let sign = if self.best.label & mask != 0 { -1 } else { 1 };
         let value = sign * (self.extrinsic[bit] - self.best.metric);
+        if is_weak && self.slip != PlusClipForEveryBit {
+            let is_empty = self.ones & self.zeros & mask == 0;
+            let weak = sign * self.block.weak;
+            match self.slip {
+                WeakForClipped if value.abs() >= clip => return weak,
+                WeakClips if !is_empty => return value.clamp(-self.block.weak, self.block.weak),
+                SignTurned | EmptySideTurned if is_empty => return -weak,
+                EmptySidePlus if is_empty => return self.block.weak,
+                PriorOffWeak if is_empty => return (weak - prior).clamp(-clip, clip),
+                _ if is_empty => return weak,
+                _ => (),
+            }
+        }
         match self.slip {
             PlusClipForEveryBit => clip,
             PriorAfterClip => (value + prior).clamp(-clip, clip) - prior,
@@ -305,15 +469,17 @@ fn agree(slip: Slip, trial: &Trial) -> bool {
 
 #[test]
 fn with_no_slip_every_record_agrees() {
-    for trial in trials::all().filter(|trial| trial.suits_plain) {
-        assert!(agree(Clean, &trial), "{:02X?}", trial.record);
-    }
+    comparison::compare(trials::groups(), |trial| {
+        assert!(!trial.suits_plain || agree(Clean, &trial), "{:02X?}", trial.record);
+        read_with(Clean, &trial.record).is_ok()
+    });
 }
 
 #[test]
 fn every_slip_is_seen() {
-    assert_eq!((searching_slips().len(), reading_slips().len()), (22, 5));
-    for slip in searching_slips().into_iter().chain(reading_slips()) {
+    assert_eq!((searching_slips().len(), weak_slips().len()), (22, 11));
+    assert_eq!((width_slips().len(), opening_slips().len()), (5, 17));
+    for slip in [searching_slips(), weak_slips(), width_slips(), opening_slips()].concat() {
         let seen = trials::all().filter(|trial| trial.suits_plain).any(|trial| !agree(slip, &trial));
         assert!(seen, "no record tells {slip:?}");
     }
@@ -326,15 +492,23 @@ fn every_slip_is_seen_often() {
         let by_chance = trials::priors_beyond_the_clip().chain(trials::ties());
         assert!(is_seen_often(by_chance, |trial| !agree(slip, trial)), "{slip:?}");
     }
+    for slip in weak_slips() {
+        assert!(is_seen_often(trials::weak_values(), |trial| !agree(slip, trial)), "{slip:?}");
+        assert!(is_seen_often(trials::weak_channels(), |trial| !agree(slip, trial)), "{slip:?}");
+    }
 }
 
 /// The record reader's own test, which is stored and run by the proved reader, sees the reader's slips, and so do other records.
 #[test]
 fn every_slip_of_the_reader_is_seen_often() {
-    for slip in reading_slips() {
-        let tells = |trial: &Trial| read_with(slip, &trial.record) != read(&trial.record);
-        assert!(is_seen_often(trials::reader_cases(), tells), "{slip:?}");
-        assert!(is_seen_often(trials::widths(), tells), "{slip:?}");
+    let tells = |slip: Slip, trial: &Trial| read_with(slip, &trial.record) != read(&trial.record);
+    for slip in width_slips() {
+        assert!(is_seen_often(trials::reader_cases(), |trial| tells(slip, trial)), "{slip:?}");
+        assert!(is_seen_often(trials::widths(), |trial| tells(slip, trial)), "{slip:?}");
+    }
+    for slip in opening_slips() {
+        assert!(is_seen_often(trials::reader_cases(), |trial| tells(slip, trial)), "{slip:?}");
+        assert!(is_seen_often(trials::headers(), |trial| tells(slip, trial)), "{slip:?}");
     }
 }
 
@@ -345,7 +519,7 @@ fn every_exchange_of_neighbouring_points_is_seen() {
     for (symbol, bit) in (0..256).flat_map(|symbol| (0..8).map(move |bit| (symbol, bit))) {
         let matrix = vec![vec![Complex { re: 1, im: 0 }]];
         let vector = Vector { matrix, received: vec![plain::point(8, symbol)], priors: vec![0; 8] };
-        let block = Block { streams: 1, bits: 8, clip: 0, share: 100, vectors: vec![vector] };
+        let block = Block::older(1, 8, 0, 100, vec![vector]);
         assert_eq!(plain::answers(&block)[0].label, symbol);
         let other = symbol ^ 1 << bit;
         assert_eq!(answers(PointsExchanged(symbol, other), &block)[0].label, other);

@@ -1,28 +1,31 @@
 -- What an accepted record holds: as many numbers as its own M, Q and N call for, and a block in range. Each number is in the range of its
--- kind; the vectors' numbers stand behind the five of the header, one vector behind the other.
-use Prim.Native.Nat.{ℕ, zero, suc, _+_, _*_, _<_}
-use mathlib.Core.Path.{_≡_, _∙_}
-use mathlib.Core.Bool.{true}
-use mathlib.Core.List.{List, _++_}
+-- kind; the vectors' numbers stand behind the header, one vector behind the other.
+use Prim.Native.Nat.{ℕ, zero, suc, _+_, _*_, _≤_, _<_}
+use mathlib.Core.Path.{_≡_, refl, _∙_}
+use mathlib.Core.Bool.{Bool, true, false}
+use mathlib.Core.List.{List}
 use native.Mathlib.Omega.{arith}
-use native.Mathlib.Nat.{suc-mul}
+use native.Mathlib.Nat.{suc-mul, le-refl}
+use borrow.Author.Tests.{ltb-true, ltb-false}
+use lib.Dec.{ltb}
 use lib.ListN.{length, getD, take, drop, length-append}
 use lib.Seq.{drop-drop}
 use lib.IntN.{ℤ, pos}
 use Rattle.model.specs.Block.{InRange, mostStreams, mostVectors, mostClip, mostShare}
 use Rattle.model.proofs.Lists.{every-upFrom}
-use Rattle.block.specs.Table.{allowed}
-use Rattle.block.specs.Reading.{kindsOf, runsOf, vectorSize, countAt, readRecord}
-use Rattle.block.specs.Contents.{vectorNumbers, vectorRows, blockOf, vectorKinds, recordKinds}
-use Rattle.block.specs.declared.Kind.the-variants.{StreamCount}
+use Rattle.refusals.specs.Table.{allowed}
+use Rattle.block.specs.Reading.{weakPlace, sharePlace, headerSize, kindsOf, runsOf, partKinds, vectorSize, vectorKinds, countAt, layoutOf, readRecord}
+use Rattle.block.specs.Contents.{vectorNumbers, vectorRows, blockOf, headerKinds, recordKinds}
+use Rattle.refusals.specs.declared.Kind.the-variants.{StreamCount}
 use Rattle.block.specs.declared.Read.the-variants.{Ended}
-use Rattle.block.specs.declared.Part.the-variants.{First, Sizes, Vector}
-use Rattle.block.proofs.Ranges.{between-plain, allowed-width}
-use Rattle.block.proofs.Runs.{vector-numbers}
-use Rattle.block.proofs.Parts.{AllAllowed, allowed-length, plain-most, label-most}
+use Rattle.block.specs.declared.Part.the-variants.{Vector}
+use Rattle.block.specs.declared.Layout.{Layout}
+use Rattle.block.proofs.Ranges.{Plain, between-plain, allowed-width}
+use Rattle.block.proofs.Runs.{kindIn, kind-in-front, header-numbers, weak-kind, share-kind, vector-numbers}
+use Rattle.block.proofs.Parts.{AllAllowed, allowed-at, allowed-length, plain-most, label-most}
 use Rattle.block.proofs.Places.{vectors-count, drop-two}
 use Rattle.block.proofs.Flat.{accepted-allowed}
-use Rattle.block.proofs.Vectors.{allowed-at, allowed-parts, Placed, vector-placed, vector-ranged}
+use Rattle.block.proofs.Vectors.{allowed-parts, Placed, vector-placed, vector-ranged}
 
 -- As many kinds as M, Q and N call for
 vector-kinds-count : (n m q : ℕ) → length (vectorKinds n m q) ≡ n * vectorSize m q
@@ -33,10 +36,18 @@ vector-kinds-count (suc n) m q =
     let rest = vector-kinds-count n m q in
     length-append (kindsOf (runsOf (Vector m q))) (vectorKinds n m q) ∙ (omega (arith, suc-mul n (vectorSize m q)))
 
-pub kinds-count : (numbers : List ℤ)
-    → length (recordKinds numbers) ≡ 5 + countAt 2 numbers * vectorSize (countAt 0 numbers) (countAt 1 numbers)
-unfolding recordKinds kindsOf runsOf
-kinds-count numbers = omega (arith, vector-kinds-count (countAt 2 numbers) (countAt 0 numbers) (countAt 1 numbers))
+pub kinds-count : (o : Layout) (numbers : List ℤ)
+    → length (recordKinds o numbers) ≡ headerSize o + countAt 2 numbers * vectorSize (countAt 0 numbers) (countAt 1 numbers)
+unfolding recordKinds
+kinds-count o numbers =
+    let header = headerKinds o (getD numbers 0 (pos 0)) (getD numbers 3 (pos 0)) in
+    let vectors = vectorKinds (countAt 2 numbers) (countAt 0 numbers) (countAt 1 numbers) in
+    omega (
+      arith,
+      length-append header vectors,
+      header-numbers o (getD numbers 0 (pos 0)) (getD numbers 3 (pos 0)),
+      vector-kinds-count (countAt 2 numbers) (countAt 0 numbers) (countAt 1 numbers),
+    )
 
 -- Vector k of n, from 0
 vectors-allowed : (n m q : ℕ) (zs : List ℤ) → AllAllowed (vectorKinds n m q) zs → (k : ℕ) → k < n
@@ -53,63 +64,87 @@ vectors-allowed (suc n) m q zs a (suc k) h =
     rw (← drop-two size (k * size) (suc k * size) zs (omega (arith, suc-mul k size))) later
 
 -- A record's numbers that are all in range
-module _ (numbers : List ℤ) (a : AllAllowed (recordKinds numbers) numbers) where
-  vectors-behind : AllAllowed (vectorKinds (countAt 2 numbers) (countAt 0 numbers) (countAt 1 numbers)) (drop 5 numbers)
-  unfolding recordKinds kindsOf runsOf
+module _ (o : Layout) (numbers : List ℤ) (a : AllAllowed (recordKinds o numbers) numbers) where
+  abbrev m : ℤ
+  m = getD numbers 0 (pos 0)
+
+  abbrev c : ℤ
+  c = getD numbers 3 (pos 0)
+
+  vectors-behind : AllAllowed (vectorKinds (countAt 2 numbers) (countAt 0 numbers) (countAt 1 numbers)) (drop (headerSize o) numbers)
+  unfolding recordKinds
   vectors-behind =
-      allowed-parts (kindsOf (runsOf First) ++ kindsOf (runsOf (Sizes (getD numbers 0 (pos 0)))))
-      (vectorKinds (countAt 2 numbers) (countAt 0 numbers) (countAt 1 numbers)) numbers a .1
+      rw (header-numbers o m c) at (allowed-parts (headerKinds o m c) (vectorKinds (countAt 2 numbers) (countAt 0 numbers) (countAt 1 numbers)) numbers a .1)
 
   -- So are vector k's
   pub vector-allowed : (k : ℕ) → k < countAt 2 numbers
-      → AllAllowed (kindsOf (runsOf (Vector (countAt 0 numbers) (countAt 1 numbers)))) (vectorNumbers numbers k)
+      → AllAllowed (partKinds (Vector (countAt 0 numbers) (countAt 1 numbers))) (vectorNumbers o numbers k)
   vector-allowed k h =
       rw (← drop-drop)
-      (vectors-allowed (countAt 2 numbers) (countAt 0 numbers) (countAt 1 numbers) (drop 5 numbers) vectors-behind k h)
+      (vectors-allowed (countAt 2 numbers) (countAt 0 numbers) (countAt 1 numbers) (drop (headerSize o) numbers) vectors-behind k h)
 
-  size-at : (i : ℕ) → i < 5 → allowed (getD (recordKinds numbers) i StreamCount) (getD numbers i (pos 0)) ≡ true
-  size-at i h = allowed-at (recordKinds numbers) numbers a i StreamCount (omega (arith, kinds-count numbers))
+  -- and the header's
+  header-at : (i : ℕ) → i < headerSize o → allowed (kindIn (headerKinds o m c) i) (getD numbers i (pos 0)) ≡ true
+  unfolding recordKinds
+  header-at i h =
+      rw (kind-in-front (headerKinds o m c) (vectorKinds (countAt 2 numbers) (countAt 0 numbers) (countAt 1 numbers)) i (omega (arith, header-numbers o m c)))
+      at (allowed-at (recordKinds o numbers) numbers a i StreamCount (omega (arith, kinds-count o numbers)))
+
+  clip : Plain 0 mostClip c
+  unfolding kindsOf runsOf
+  clip = between-plain 0 mostClip c (header-at 3 (omega arith))
+
+  -- W is at most C, also where C stands for it
+  weak : countAt (weakPlace o) numbers ≤ countAt 3 numbers
+  weak = go (ltb 3 (weakPlace o)) refl
+    where
+      go : (b : Bool) → ltb 3 (weakPlace o) ≡ b → countAt (weakPlace o) numbers ≤ countAt 3 numbers
+      go true e =
+          let there = rw (weak-kind o m c (weakPlace o) (ltb-true 3 (weakPlace o) e) (omega arith)) at (header-at (weakPlace o) (omega arith)) in
+          rw (clip .is) (plain-most (between-plain 0 (clip .value) (getD numbers (weakPlace o) (pos 0)) (rw (clip .is) at there)))
+      go false e = let same : weakPlace o ≡ 3 = omega (arith, ltb-false 3 (weakPlace o) e) in rw same (le-refl (countAt 3 numbers))
 
   -- Their block is in range
-  pub in-range : InRange (blockOf numbers)
-  unfolding recordKinds blockOf kindsOf runsOf
+  pub in-range : InRange (blockOf o numbers)
+  unfolding blockOf kindsOf runsOf
   in-range =
-      let m = between-plain 1 mostStreams (getD numbers 0 (pos 0)) (size-at 0 (omega arith)) in
-      let q = allowed-width (getD numbers 0 (pos 0)) (getD numbers 1 (pos 0)) (size-at 1 (omega arith)) in
-      let n = between-plain 1 mostVectors (getD numbers 2 (pos 0)) (size-at 2 (omega arith)) in
-      let c = between-plain 0 mostClip (getD numbers 3 (pos 0)) (size-at 3 (omega arith)) in
-      let d = between-plain (m .value) mostShare (getD numbers 4 (pos 0)) (rw (m .is) at (size-at 4 (omega arith))) in
+      let s = between-plain 1 mostStreams m (header-at 0 (omega arith)) in
+      let q = allowed-width m (getD numbers 1 (pos 0)) (header-at 1 (omega arith)) in
+      let n = between-plain 1 mostVectors (getD numbers 2 (pos 0)) (header-at 2 (omega arith)) in
+      let share = rw (share-kind o m c, s .is) at (header-at (sharePlace o) (omega arith)) in
+      let d = between-plain (s .value) mostShare (getD numbers (sharePlace o) (pos 0)) share in
       record {
-        stream = rw (m .is) (m .low);
-        streams = plain-most m;
+        stream = rw (s .is) (s .low);
+        streams = plain-most s;
         width = rw (q .is) (q .member);
-        label = label-most (getD numbers 0 (pos 0)) (getD numbers 1 (pos 0)) (size-at 0 (omega arith)) (size-at 1 (omega arith));
-        vector = rw (vectors-count numbers, n .is) (n .low);
-        vectors = rw (vectors-count numbers) (plain-most n);
-        clip = plain-most c;
-        reserve = rw (m .is, d .is) (d .low);
+        label = label-most m (getD numbers 1 (pos 0)) (header-at 0 (omega arith)) (header-at 1 (omega arith));
+        vector = rw (vectors-count o numbers, n .is) (n .low);
+        vectors = rw (vectors-count o numbers) (plain-most n);
+        clip = plain-most clip;
+        weak = weak;
+        reserve = rw (s .is, d .is) (d .low);
         share = plain-most d;
         each =
-            every-upFrom _ (vectorRows numbers) 0 (countAt 2 numbers)
-            (λ k h. vector-ranged (countAt 0 numbers) (countAt 1 numbers) (vectorNumbers numbers k) (vector-allowed k (omega arith)));
+            every-upFrom _ (vectorRows o numbers) 0 (countAt 2 numbers)
+            (λ k h. vector-ranged (countAt 0 numbers) (countAt 1 numbers) (vectorNumbers o numbers k) (vector-allowed k (omega arith)));
       }
 
 module _ (bytes : List ℕ) (at : ℕ) (e : readRecord bytes .read ≡ Ended at) where
-  -- An accepted record has five numbers and those of N vectors
+  -- An accepted record has the header's numbers and those of N vectors
   pub accepted-count : let numbers = readRecord bytes .numbers in
-      length numbers ≡ 5 + countAt 2 numbers * vectorSize (countAt 0 numbers) (countAt 1 numbers)
+      length numbers ≡ headerSize (layoutOf bytes) + countAt 2 numbers * vectorSize (countAt 0 numbers) (countAt 1 numbers)
   accepted-count =
       let numbers = readRecord bytes .numbers in
-      allowed-length (recordKinds numbers) numbers (accepted-allowed bytes at e) ∙ kinds-count numbers
+      allowed-length (recordKinds (layoutOf bytes) numbers) numbers (accepted-allowed bytes at e) ∙ kinds-count (layoutOf bytes) numbers
 
   -- Vector k of it is whole, and its numbers are in range place by place
   pub accepted-placed : (k : ℕ) → let numbers = readRecord bytes .numbers in k < countAt 2 numbers
-      → Placed (countAt 0 numbers) (countAt 1 numbers) (vectorNumbers numbers k)
+      → Placed (countAt 0 numbers) (countAt 1 numbers) (vectorNumbers (layoutOf bytes) numbers k)
   accepted-placed k h =
       let numbers = readRecord bytes .numbers in
-      vector-placed (countAt 0 numbers) (countAt 1 numbers) (vectorNumbers numbers k)
-      (vector-allowed numbers (accepted-allowed bytes at e) k h)
+      vector-placed (countAt 0 numbers) (countAt 1 numbers) (vectorNumbers (layoutOf bytes) numbers k)
+      (vector-allowed (layoutOf bytes) numbers (accepted-allowed bytes at e) k h)
 
   -- Its block is in range
-  pub accepted-in-range : InRange (blockOf (readRecord bytes .numbers))
-  accepted-in-range = in-range (readRecord bytes .numbers) (accepted-allowed bytes at e)
+  pub accepted-in-range : InRange (blockOf (layoutOf bytes) (readRecord bytes .numbers))
+  accepted-in-range = in-range (layoutOf bytes) (readRecord bytes .numbers) (accepted-allowed bytes at e)

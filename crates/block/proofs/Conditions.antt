@@ -17,25 +17,27 @@ use Rattle.wire.specs.declared.Number.the-variants.{Value, Short, Malformed as 
 use Rattle.wire.proofs.Reading.{is-short, is-malformed}
 use Rattle.wire.proofs.RoundTrip.{read-sound}
 use Rattle.model.specs.Block.{InRange, widths}
-use Rattle.block.specs.Table.{oneOf, crowded, allowed, refusalOf}
+use Rattle.refusals.specs.Table.{oneOf, crowded, allowed, refusalOf}
 use Rattle.block.specs.Reading.{wholeOf, byNumber, oneAt, Parse, byOne, numbersAt, andThen}
-use Rattle.block.specs.Reading.{recordAt, opening, startsWith, readRecord, atEnd, readWhole}
+use Rattle.block.specs.Reading.{opening, startsWith, layoutOf, stages, stagesAt, readRecord, atEnd, readWhole}
 use Rattle.block.specs.Contents.{blockOf}
-use Rattle.block.specs.Conditions.{calledFor, Next, NextIs, OutOfRange, Whole, TurnedBack}
-use Rattle.block.specs.declared.Kind.{Kind}
-use Rattle.block.specs.declared.Kind.the-variants.{StreamCount, SymbolWidth, VectorCount, ClipLevel, NodeShare}
-use Rattle.block.specs.declared.Kind.the-variants.{DiagonalEntry, RightPart, ReceivedPart, BitPrior}
+use Rattle.block.specs.Conditions.{calledFor, Passed, Next, NextIs, OutOfRange, Whole, TurnedBack}
+use Rattle.refusals.specs.declared.Kind.{Kind}
+use Rattle.refusals.specs.declared.Kind.the-variants.{StreamCount, SymbolWidth, VectorCount, ClipLevel, WeakLevel, NodeShare}
+use Rattle.refusals.specs.declared.Kind.the-variants.{DiagonalEntry, RightPart, ReceivedPart, BitPrior}
+use Rattle.block.specs.declared.Layout.{Layout}
 use Rattle.block.specs.declared.One.{One}
 use Rattle.block.specs.declared.One.the-variants.{Taken, Turned}
 use Rattle.block.specs.declared.Read.{Read}
 use Rattle.block.specs.declared.Read.the-variants.{Ended, Refused}
-use Rattle.block.specs.declared.Refusal.{Refusal}
-use Rattle.block.specs.declared.Refusal.the-variants.{Opening, Ends, Malformed, Streams, Width, Vectors, Clip, Share, Diagonal}
-use Rattle.block.specs.declared.Refusal.the-variants.{Entry, Received, Prior, Trailing, Buffer, Crowded}
+use Rattle.refusals.specs.declared.Refusal.{Refusal}
+use Rattle.refusals.specs.declared.Refusal.the-variants.{Opening, Ends, Malformed, Streams, Width, Vectors, Clip, Share, Diagonal}
+use Rattle.refusals.specs.declared.Refusal.the-variants.{Entry, Received, Prior, Trailing, Buffer, Crowded, Weak}
 use Rattle.block.proofs.Ranges.{crowded-is}
 use Rattle.block.proofs.Reading.{by-turned, one-found, numbers-keep}
-use Rattle.block.proofs.Opening.{starts-short}
-use Rattle.block.proofs.Flat.{joined, numbers-append, called-reads, called-only, accepted-opens, accepted-called, accepted-all}
+use Rattle.block.proofs.Openings.{starts-short, four, layout-only, unopened}
+use Rattle.block.proofs.Stages.{joined, numbers-append}
+use Rattle.block.proofs.Flat.{called-reads, called-only, accepted-opens, accepted-called, accepted-all}
 use Rattle.block.proofs.Accepted.{accepted-in-range}
 
 -- Numbers of some kinds that were turned back at the next one
@@ -75,49 +77,64 @@ stopped ks bytes at zs r s =
     ∙ λ j. record { numbers = append-nil zs j; read = Refused r }
 
 -- An accepted record's numbers are all that it calls for
-whole-at : (bytes : List ℕ) (at : ℕ) → readRecord bytes .read ≡ Ended at → (w : Whole bytes at) × (readRecord bytes .numbers ≡ w .numbers)
+whole-at : (bytes : List ℕ) (at : ℕ) → readRecord bytes .read ≡ Ended at
+    → (w : Whole bytes at) × (readRecord bytes .numbers ≡ w .numbers) × (layoutOf bytes ≡ w .layout)
 whole-at bytes at e = (
   record {
+    layout = layoutOf bytes;
     numbers = zs;
     passed = record {
       opens = accepted-opens bytes at e;
       each =
-          ap (λ (ks : List Kind). numbersAt ks bytes 4) (take-all (length zs) (calledFor zs) (omega (arith, accepted-all bytes at e)))
+          ap (λ (ks : List Kind). numbersAt ks bytes 4)
+          (take-all (length zs) (calledFor (layoutOf bytes) zs) (omega (arith, accepted-all bytes at e)))
           ∙ accepted-called bytes at e;
     };
     all = accepted-all bytes at e;
   },
+  refl,
   refl,
 )
   where
     zs : List ℤ
     zs = readRecord bytes .numbers
 
+-- Checks that are passed in a layout are passed in the one that the opening tells
+passed-only : {bytes : List ℕ} {o : Layout} {zs : List ℤ} {at : ℕ} → Passed bytes o zs at → layoutOf bytes ≡ o
+passed-only {bytes} {o} p = layout-only o bytes (p .opens)
+
+passed-opens : {bytes : List ℕ} {o : Layout} {zs : List ℤ} {at : ℕ} → Passed bytes o zs at → startsWith (opening (layoutOf bytes)) bytes ≡ true
+passed-opens {bytes} p = ap (λ (x : Layout). startsWith (opening x) bytes) (passed-only p) ∙ p .opens
+
 -- and the other way
 whole-is : (bytes : List ℕ) (at : ℕ) (w : Whole bytes at) → readRecord bytes ≡ record { numbers = w .numbers; read = Ended at }
 whole-is bytes at w =
     let zs = w .numbers in
-    called-only bytes (w .passed .opens) zs (Ended at)
-    (ap (λ (ks : List Kind). numbersAt ks bytes 4) (sym (take-all (length zs) (calledFor zs) (omega (arith, w .all)))) ∙ w .passed .each)
+    called-only bytes (passed-opens (w .passed)) zs (Ended at)
+    (ap (λ (o : Layout). numbersAt (calledFor o zs) bytes 4) (passed-only (w .passed))
+    ∙ ap (λ (ks : List Kind). numbersAt ks bytes 4) (sym (take-all (length zs) (calledFor (w .layout) zs) (omega (arith, w .all)))) ∙ w .passed .each)
 
 -- A refused record's next number was turned back
-next-at : (bytes : List ℕ) (r : Refusal) → startsWith opening bytes ≡ true → readRecord bytes .read ≡ Refused r
+next-at : (bytes : List ℕ) (r : Refusal) → startsWith (opening (layoutOf bytes)) bytes ≡ true → readRecord bytes .read ≡ Refused r
     → (k : Kind) × (at : ℕ) × Next bytes k at × (oneAt k bytes at ≡ Turned r)
 next-at bytes r opens e = (
-  getD (calledFor zs) (length zs) StreamCount,
+  getD called (length zs) StreamCount,
   s .place,
-  record { numbers = zs; passed = record { opens = opens; each = s .before }; more = s .more; kind = refl },
+  record { layout = layoutOf bytes; numbers = zs; passed = record { opens = opens; each = s .before }; more = s .more; kind = refl },
   s .turned,
 )
   where
     zs : List ℤ
     zs = readRecord bytes .numbers
 
-    s : Stop (calledFor zs) bytes 4 zs r
+    called : List Kind
+    called = calledFor (layoutOf bytes) zs
+
+    s : Stop called bytes 4 zs r
     s =
         let reads = called-reads bytes opens in
-        subst (λ (p : Parse). Stop (calledFor zs) bytes 4 (p .numbers) r) (sym reads)
-        (stop (calledFor zs) bytes 4 r (ap (λ (p : Parse). p .read) (sym reads) ∙ e))
+        subst (λ (p : Parse). Stop called bytes 4 (p .numbers) r) (sym reads)
+        (stop called bytes 4 r (ap (λ (p : Parse). p .read) (sym reads) ∙ e))
 
 -- and the other way
 next-is : (bytes : List ℕ) (k : Kind) (at : ℕ) (r : Refusal) → Next bytes k at → oneAt k bytes at ≡ Turned r
@@ -125,10 +142,12 @@ next-is : (bytes : List ℕ) (k : Kind) (at : ℕ) (r : Refusal) → Next bytes 
 unfolding readWhole
 next-is bytes k at r n e =
     let zs = n .numbers in
-    let s : Stop (calledFor zs) bytes 4 zs r =
+    let called = calledFor (n .layout) zs in
+    let s : Stop called bytes 4 zs r =
     record { place = at; more = n .more; before = n .passed .each; turned = ap (λ (l : Kind). oneAt l bytes at) (n .kind) ∙ e } in
     ap (λ (p : Parse). atEnd (length bytes) (p .read))
-    (called-only bytes (n .passed .opens) zs (Refused r) (stopped (calledFor zs) bytes 4 zs r s))
+    (called-only bytes (passed-opens (n .passed)) zs (Refused r)
+    (ap (λ (o : Layout). numbersAt (calledFor o zs) bytes 4) (passed-only (n .passed)) ∙ stopped called bytes 4 zs r s))
 
 -- A Q out of its range is none of the widths, or 8 where M is 4
 by-width : (bytes : List ℕ) (m : ℤ) (o : OutOfRange bytes (SymbolWidth m)) → TurnedBack bytes (refusalOf (SymbolWidth m) (pos (o .n)))
@@ -149,6 +168,7 @@ by-kind bytes StreamCount o = o
 by-kind bytes (SymbolWidth m) o = by-width bytes m o
 by-kind bytes VectorCount o = o
 by-kind bytes ClipLevel o = o
+by-kind bytes (WeakLevel c) o = (c, o)
 by-kind bytes (NodeShare m) o = (m, o)
 by-kind bytes DiagonalEntry o = o
 by-kind bytes RightPart o = o
@@ -175,7 +195,7 @@ by-number bytes k at r next e = go (numberAt bytes at) refl e
 -- A refused record meets its refusal's condition
 refused-by : (bytes : List ℕ) (r : Refusal) → readWhole bytes .read ≡ Refused r → TurnedBack bytes r
 unfolding readWhole readRecord
-refused-by bytes r e = go (startsWith opening bytes) refl e
+refused-by bytes r e = go (startsWith (opening (layoutOf bytes)) bytes) refl e
   where
     trailing : (at : ℕ) → readRecord bytes .read ≡ Ended at → (b : Bool) → ltb at (length bytes) ≡ b
         → cond b (Refused Trailing) (Ended at) ≡ Refused r → TurnedBack bytes r
@@ -184,16 +204,17 @@ refused-by bytes r e = go (startsWith opening bytes) refl e
         subst (TurnedBack bytes) same (at, whole-at bytes at g .0, ltb-true at (length bytes) h)
     trailing at g false h i = let z : _≡_ {A = ℕ} 0 1 = cc in absurd (omega arith)
 
-    opened-by : startsWith opening bytes ≡ true → (read : Read) → readRecord bytes .read ≡ read → atEnd (length bytes) read ≡ Refused r
+    opened-by : startsWith (opening (layoutOf bytes)) bytes ≡ true → (read : Read) → readRecord bytes .read ≡ read → atEnd (length bytes) read ≡ Refused r
         → TurnedBack bytes r
     opened-by f (Ended at) g h = trailing at g (ltb at (length bytes)) refl h
     opened-by f (Refused s) g h = let n = next-at bytes r f (g ∙ h) in by-number bytes (n .0) (n .1) r (n .2) (n .3)
 
-    go : (b : Bool) → startsWith opening bytes ≡ b
-        → atEnd (length bytes) (cond b (recordAt bytes 4) (record { numbers = []; read = Refused Opening }) .read) ≡ Refused r
+    go : (b : Bool) → startsWith (opening (layoutOf bytes)) bytes ≡ b
+        → atEnd (length bytes) (cond b (stagesAt (stages (layoutOf bytes)) [] bytes 4) (record { numbers = []; read = Refused Opening }) .read)
+        ≡ Refused r
         → TurnedBack bytes r
     go true f g = opened-by f (readRecord bytes .read) refl e
-    go false f g = let same : Opening ≡ r = cc in subst (TurnedBack bytes) same f
+    go false f g = let same : Opening ≡ r = cc in subst (TurnedBack bytes) same (unopened bytes f)
 
 -- A number out of its range is turned back
 is-refused : (bytes : List ℕ) (k : Kind) {Holds : ℤ → Type 0} (o : NextIs bytes k Holds) → allowed k (wholeOf k (o .n)) ≡ false
@@ -208,7 +229,7 @@ range-refused bytes k o = is-refused bytes k o (o .holds)
 -- A record that meets a refusal's condition has that refusal
 refused-of : (bytes : List ℕ) (r : Refusal) → TurnedBack bytes r → readWhole bytes .read ≡ Refused r
 unfolding readWhole readRecord byNumber
-refused-of bytes Opening f = rw f
+refused-of bytes Opening f = rw (f (layoutOf bytes))
 refused-of bytes Ends t = next-is bytes (t .0) (t .1) Ends (t .2) (ap (byNumber (t .0)) (is-short (numberAt bytes (t .1)) (t .3)))
 refused-of bytes Malformed t =
     next-is bytes (t .0) (t .1) Malformed (t .2) (ap (byNumber (t .0)) (is-malformed (numberAt bytes (t .1)) (t .3)))
@@ -217,6 +238,7 @@ refused-of bytes Width t =
     let width = t .1 .holds in rw width at (is-refused bytes (SymbolWidth (t .0)) (t .1) (rw width))
 refused-of bytes Vectors o = range-refused bytes VectorCount o
 refused-of bytes Clip o = range-refused bytes ClipLevel o
+refused-of bytes Weak t = range-refused bytes (WeakLevel (t .0)) (t .1)
 refused-of bytes Share t = range-refused bytes (NodeShare (t .0)) (t .1)
 refused-of bytes Diagonal o = range-refused bytes DiagonalEntry o
 refused-of bytes Entry o = range-refused bytes RightPart o
@@ -235,12 +257,12 @@ pub turned-back : (bytes : List ℕ) (r : Refusal) → (readWhole bytes .read �
 turned-back bytes r = (refused-by bytes r, refused-of bytes r)
 
 -- A record's opening is in its bytes
-four-bytes : (bytes : List ℕ) → startsWith opening bytes ≡ true → 4 ≤ length bytes
-four-bytes bytes opens = go (ltb (length bytes) 4) refl
+four-bytes : (o : Layout) (bytes : List ℕ) → startsWith (opening o) bytes ≡ true → 4 ≤ length bytes
+four-bytes o bytes opens = go (ltb (length bytes) 4) refl
   where
     go : (b : Bool) → ltb (length bytes) 4 ≡ b → 4 ≤ length bytes
     go true f =
-        let no = starts-short opening bytes (ltb-true (length bytes) 4 f) in
+        let no = starts-short (opening o) bytes (omega (arith, ltb-true (length bytes) 4 f, four o)) in
         let z : _≡_ {A = ℕ} 0 1 = cc in
         absurd (omega arith)
     go false f = ltb-false (length bytes) 4 f
@@ -253,7 +275,7 @@ inside bytes k at next z e =
 ends-inside : (bytes : List ℕ) (at : ℕ) → readRecord bytes .read ≡ Ended at → at ≤ length bytes
 ends-inside bytes at e =
     numbers-keep (λ ks place. place ≤ length bytes) bytes (λ k ks place next z t h. inside bytes k place next z t)
-    (calledFor (readRecord bytes .numbers)) 4 at (four-bytes bytes (accepted-opens bytes at e))
+    (calledFor (layoutOf bytes) (readRecord bytes .numbers)) 4 at (four-bytes (layoutOf bytes) bytes (accepted-opens bytes at e))
     (ap (λ (p : Parse). p .read) (accepted-called bytes at e))
 
 -- A record that is the whole of its bytes ends with them
@@ -275,15 +297,15 @@ ends-last bytes at e = go (readRecord bytes .read) refl e
 
 -- A record that is read to its end is whole
 pub whole-read : (bytes : List ℕ) (at : ℕ) → readWhole bytes .read ≡ Ended at
-    → (w : Whole bytes (length bytes)) × (readRecord bytes .numbers ≡ w .numbers) × (at ≡ length bytes)
+    → (w : Whole bytes (length bytes)) × (readRecord bytes .numbers ≡ w .numbers) × (layoutOf bytes ≡ w .layout) × (at ≡ length bytes)
 whole-read bytes at e =
     let last = ends-last bytes at e in
     let w = whole-at bytes (length bytes) (last .0 ∙ ap Ended (last .1)) in
-    (w .0, w .1, last .1)
+    (w .0, w .1, w .2, last .1)
 
 -- and the other way
 pub read-whole : (bytes : List ℕ) (w : Whole bytes (length bytes))
-    → (readWhole bytes .read ≡ Ended (length bytes)) × (readRecord bytes .numbers ≡ w .numbers)
+    → (readWhole bytes .read ≡ Ended (length bytes)) × (readRecord bytes .numbers ≡ w .numbers) × (layoutOf bytes ≡ w .layout)
 unfolding readWhole
 read-whole bytes w =
     let is = whole-is bytes (length bytes) w in
@@ -291,10 +313,12 @@ read-whole bytes w =
       ap (λ (p : Parse). atEnd (length bytes) (p .read)) is
           ∙ ap (λ (b : Bool). cond b (Refused Trailing) (Ended (length bytes))) end,
       ap (λ (p : Parse). p .numbers) is,
+      passed-only (w .passed),
     )
 
 -- A whole record's block is in range
-pub whole-in-range : (bytes : List ℕ) (at : ℕ) (w : Whole bytes at) → InRange (blockOf (w .numbers))
+pub whole-in-range : (bytes : List ℕ) (at : ℕ) (w : Whole bytes at) → InRange (blockOf (w .layout) (w .numbers))
 whole-in-range bytes at w =
     let is = whole-is bytes at w in
-    subst (λ (p : Parse). InRange (blockOf (p .numbers))) is (accepted-in-range bytes at (ap (λ (p : Parse). p .read) is))
+    subst (λ (o : Layout). InRange (blockOf o (w .numbers))) (passed-only (w .passed))
+    (subst (λ (p : Parse). InRange (blockOf (layoutOf bytes) (p .numbers))) is (accepted-in-range bytes at (ap (λ (p : Parse). p .read) is)))

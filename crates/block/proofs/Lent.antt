@@ -13,54 +13,57 @@ use lib.IntN.{ℤ, pos, natAbs}
 use Rattle.model.specs.Soft.{upFrom}
 use Rattle.model.specs.Block.{InRange, mostVectors}
 use Rattle.model.proofs.Lists.{map-upFrom}
-use Rattle.block.specs.Reading.{vectorSize, countAt, readRecord, atEnd, readWhole, Got, got, into, mostNumbers}
+use Rattle.block.specs.declared.Layout.{Layout}
+use Rattle.block.specs.Reading.{weakPlace, sharePlace, headerSize, vectorSize, countAt, layoutOf, readRecord, atEnd, readWhole, Got, got, into, mostNumbers}
 use Rattle.block.specs.Contents.{rowsOf, vectorNumbers, vectorRows, blockOf}
 use Rattle.block.specs.declared.Read.{Read}
 use Rattle.block.specs.declared.Read.the-variants.{Ended, Refused}
-use Rattle.block.specs.declared.Refusal.the-variants.{Trailing}
+use Rattle.refusals.specs.declared.Refusal.the-variants.{Trailing}
 use Rattle.block.proofs.Parts.{into-length, all-fit}
 use Rattle.block.proofs.Places.{vectors-count}
 use Rattle.block.proofs.Vectors.{Placed}
 use Rattle.block.proofs.Accepted.{accepted-count, accepted-placed, accepted-in-range}
 
 -- Each vector of a record is whole, and its numbers are in range place by place
-abbrev pub AllPlaced : List ℤ → Type 0
-AllPlaced numbers = (k : ℕ) → k < countAt 2 numbers → Placed (countAt 0 numbers) (countAt 1 numbers) (vectorNumbers numbers k)
+abbrev pub AllPlaced : Layout → List ℤ → Type 0
+AllPlaced o numbers = (k : ℕ) → k < countAt 2 numbers → Placed (countAt 0 numbers) (countAt 1 numbers) (vectorNumbers o numbers k)
 
 -- A record's numbers with others behind them
-module _ (numbers rest : List ℤ)
-    (many : length numbers ≡ 5 + countAt 2 numbers * vectorSize (countAt 0 numbers) (countAt 1 numbers)) where
+module _ (o : Layout) (numbers rest : List ℤ)
+    (many : length numbers ≡ headerSize o + countAt 2 numbers * vectorSize (countAt 0 numbers) (countAt 1 numbers)) where
   -- The header is the record's
-  header-same : (i : ℕ) → i < 5 → countAt i (numbers ++ rest) ≡ countAt i numbers
+  header-same : (i : ℕ) → i < headerSize o → countAt i (numbers ++ rest) ≡ countAt i numbers
   header-same i h = ap natAbs (List·getD-append numbers rest (pos 0) i (omega arith))
 
   -- So are the vectors
-  vector-same : (k : ℕ) → k < countAt 2 numbers → vectorNumbers (numbers ++ rest) k ≡ vectorNumbers numbers k
+  vector-same : (k : ℕ) → k < countAt 2 numbers → vectorNumbers o (numbers ++ rest) k ≡ vectorNumbers o numbers k
   vector-same k h =
       let size = vectorSize (countAt 0 numbers) (countAt 1 numbers) in
-      let room : 5 + k * size + size ≤ length numbers = omega (arith, suc-mul k size, mul-le-mul h (le-refl size)) in
-      rw (header-same 0 (omega arith), header-same 1 (omega arith), drop-append-le (5 + k * size) numbers rest (omega arith))
-      (take-append-le size (drop (5 + k * size) numbers) rest (omega (arith, length-drop (5 + k * size) numbers)))
+      let start = headerSize o + k * size in
+      let room : start + size ≤ length numbers = omega (arith, suc-mul k size, mul-le-mul h (le-refl size)) in
+      rw (header-same 0 (omega arith), header-same 1 (omega arith), drop-append-le start numbers rest (omega arith))
+      (take-append-le size (drop start numbers) rest (omega (arith, length-drop start numbers)))
 
-  rows-same : (k : ℕ) → k < countAt 2 numbers → vectorRows (numbers ++ rest) k ≡ vectorRows numbers k
+  rows-same : (k : ℕ) → k < countAt 2 numbers → vectorRows o (numbers ++ rest) k ≡ vectorRows o numbers k
   rows-same k h = λ j. rowsOf (header-same 0 (omega arith) j) (header-same 1 (omega arith) j) (vector-same k h j)
 
   -- and the block
-  block-same : blockOf (numbers ++ rest) ≡ blockOf numbers
+  block-same : blockOf o (numbers ++ rest) ≡ blockOf o numbers
   unfolding blockOf
   block-same =
       let vectors =
-      ap (λ (n : ℕ). map (vectorRows (numbers ++ rest)) (upFrom 0 n)) (header-same 2 (omega arith))
-      ∙ map-upFrom (vectorRows (numbers ++ rest)) (vectorRows numbers) 0 (countAt 2 numbers) (λ k h. rows-same k (omega arith)) in
+      ap (λ (n : ℕ). map (vectorRows o (numbers ++ rest)) (upFrom 0 n)) (header-same 2 (omega arith))
+      ∙ map-upFrom (vectorRows o (numbers ++ rest)) (vectorRows o numbers) 0 (countAt 2 numbers) (λ k h. rows-same k (omega arith)) in
       λ j. record {
         streams = header-same 0 (omega arith) j;
         width = header-same 1 (omega arith) j;
         clip = header-same 3 (omega arith) j;
-        share = header-same 4 (omega arith) j;
+        weak = header-same (weakPlace o) (omega arith) j;
+        share = header-same (sharePlace o) (omega arith) j;
         vectors = vectors j;
       }
 
-  placed-same : AllPlaced numbers → AllPlaced (numbers ++ rest)
+  placed-same : AllPlaced o numbers → AllPlaced o (numbers ++ rest)
   placed-same p k h =
       let l = rw (header-same 2 (omega arith)) at h in
       rw (vector-same k l, header-same 0 (omega arith), header-same 1 (omega arith)) (p k l)
@@ -75,11 +78,12 @@ ended n (Ended next) at e = go (ltb next n) e
 ended n (Refused r) at e = let z : _≡_ {A = ℕ} 0 1 = cc in absurd (omega arith)
 
 -- All vectors of a block in range are within the list
-pub vectors-fit : (list : List ℤ) → InRange (blockOf list) → 5 + countAt 2 list * vectorSize (countAt 0 list) (countAt 1 list) ≤ mostNumbers
+pub vectors-fit : (o : Layout) (list : List ℤ) → InRange (blockOf o list)
+    → headerSize o + countAt 2 list * vectorSize (countAt 0 list) (countAt 1 list) ≤ mostNumbers
 unfolding blockOf
-vectors-fit list h =
-    all-fit (countAt 0 list) (countAt 1 list) (countAt 2 list) (h .streams) (h .label)
-    (subst (λ (n : ℕ). n ≤ mostVectors) (vectors-count list) (h .vectors))
+vectors-fit o list h =
+    all-fit o (countAt 0 list) (countAt 1 list) (countAt 2 list) (h .streams) (h .label)
+    (subst (λ (n : ℕ). n ≤ mostVectors) (vectors-count o list) (h .vectors))
 
 -- A list of which a record's reading, to its end, made another
 module _ (bytes : List ℕ) (at : ℕ) (list list′ : List ℤ) (room : length list ≡ mostNumbers)
@@ -96,35 +100,35 @@ module _ (bytes : List ℕ) (at : ℕ) (list list′ : List ℤ) (room : length 
   unfolding readWhole
   lent-is =
       let numbers = readRecord bytes .numbers in
-      let fit = vectors-fit numbers (accepted-in-range bytes at lent-ended) in
+      let fit = vectors-fit (layoutOf bytes) numbers (accepted-in-range bytes at lent-ended) in
       let all : 0 + length numbers ≡ length numbers = omega arith in
       ap (λ (g : Got). g .list) e ∙ sets-eq numbers list 0 (omega (arith, accepted-count bytes at lent-ended))
       ∙ ap (λ (n : ℕ). numbers ++ drop n list) all
 
   -- Its first numbers, as many as its own M, Q and N say, are the record's
-  pub lent-numbers : take (5 + countAt 2 list′ * vectorSize (countAt 0 list′) (countAt 1 list′)) list′ ≡ readWhole bytes .numbers
+  pub lent-numbers : take (headerSize (layoutOf bytes) + countAt 2 list′ * vectorSize (countAt 0 list′) (countAt 1 list′)) list′ ≡ readWhole bytes .numbers
   unfolding readWhole
   lent-numbers =
       let numbers = readRecord bytes .numbers in
       let rest = drop (length numbers) list in
       let count = accepted-count bytes at lent-ended in
-      subst (λ (l : List ℤ). take (5 + countAt 2 l * vectorSize (countAt 0 l) (countAt 1 l)) l ≡ numbers) (sym lent-is)
-      (rw (header-same numbers rest count 2 (omega arith), header-same numbers rest count 0 (omega arith), header-same numbers rest count 1 (omega arith), ← count)
+      subst (λ (l : List ℤ). take (headerSize (layoutOf bytes) + countAt 2 l * vectorSize (countAt 0 l) (countAt 1 l)) l ≡ numbers) (sym lent-is)
+      (rw (header-same (layoutOf bytes) numbers rest count 2 (omega arith), header-same (layoutOf bytes) numbers rest count 0 (omega arith), header-same (layoutOf bytes) numbers rest count 1 (omega arith), ← count)
       (take-append-seam numbers rest))
 
   -- Its block is the record's
-  pub lent-block : blockOf list′ ≡ blockOf (readWhole bytes .numbers)
+  pub lent-block : blockOf (layoutOf bytes) list′ ≡ blockOf (layoutOf bytes) (readWhole bytes .numbers)
   unfolding readWhole
-  lent-block = ap blockOf lent-is ∙ block-same _ _ (accepted-count bytes at lent-ended)
+  lent-block = ap (blockOf (layoutOf bytes)) lent-is ∙ block-same (layoutOf bytes) _ _ (accepted-count bytes at lent-ended)
 
   -- and in range
-  pub lent-in-range : InRange (blockOf list′)
+  pub lent-in-range : InRange (blockOf (layoutOf bytes) list′)
   unfolding readWhole
   lent-in-range = subst InRange (sym lent-block) (accepted-in-range bytes at lent-ended)
 
   -- Its vectors are whole, and their numbers in range
-  pub lent-placed : AllPlaced list′
+  pub lent-placed : AllPlaced (layoutOf bytes) list′
   lent-placed =
       let numbers = readRecord bytes .numbers in
-      subst AllPlaced (sym lent-is)
-      (placed-same numbers (drop (length numbers) list) (accepted-count bytes at lent-ended) (accepted-placed bytes at lent-ended))
+      subst (AllPlaced (layoutOf bytes)) (sym lent-is)
+      (placed-same (layoutOf bytes) numbers (drop (length numbers) list) (accepted-count bytes at lent-ended) (accepted-placed bytes at lent-ended))

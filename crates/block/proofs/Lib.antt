@@ -1,9 +1,10 @@
-pub mod Tests
 pub mod Ranges
 pub mod Reading
 pub mod Runs
 pub mod Parts
-pub mod Opening
+pub mod Stages
+pub mod Stored
+pub mod Openings
 pub mod Places
 pub mod Flat
 pub mod Vectors
@@ -13,4 +14,3 @@ pub mod Size
 pub mod Readings
 pub mod Conditions
 pub mod Lent
-pub mod Fillings

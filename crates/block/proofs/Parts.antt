@@ -1,29 +1,30 @@
 -- Parts one after the other, and what is known of the numbers of a part that was read whole: each is in the range of its kind.
-use Prim.Native.Nat.{ℕ, suc, _+_, _-_, _*_, _≤_, _<_}
+use Prim.Native.Nat.{ℕ, zero, suc, _+_, _-_, _*_, _≤_, _<_}
 use mathlib.Core.Path.{_≡_, refl, sym, _∙_, ap, subst}
 use mathlib.Core.Bool.{true, false, true≢false}
 use mathlib.Core.Logic.{_≢_, ⊎-elim}
 use mathlib.Core.List.{List, [], _∷_, _++_}
 use native.Mathlib.Omega.{arith}
 use native.Mathlib.Nat.{suc-mul, mul-le-mul, eq-or-lt-of-le}
-use lib.ListN.{length, getD, set, take, drop, length-append, List·getD-append}
-use lib.Seq.{sets, sets-eq, length-sets, getD-append-add, length-take-le}
+use lib.ListN.{length, getD, set}
+use lib.Seq.{sets, length-sets}
 use lib.IntN.{ℤ, pos, natAbs}
 use Rattle.model.proofs.Bounds.{of-every, width-small}
-use Rattle.model.specs.Block.{_∈_, widths, mostStreams, mostWidth, mostBits, mostVectors, mostClip, mostShare}
-use Rattle.block.specs.Table.{between, crowded, allowed}
+use Rattle.model.specs.Block.{_∈_, widths, mostStreams, mostWidth, mostBits, mostVectors}
+use Rattle.refusals.specs.Table.{crowded, allowed}
 use Rattle.block.proofs.Ranges.{Plain, between-plain, OneOf, allowed-width, allowed-uncrowded}
-use Rattle.block.proofs.Reading.{one-found}
-use Rattle.block.specs.Reading.{oneAt, Parse, byOne, numbersAt, andThen, kindsOf, runsOf, partAt, vectorSize, vectorsAt, countAt, sizedAt, recordAt, opening, startsWith, readRecord, atEnd, readWhole, Got, got, into, mostNumbers}
-use Rattle.block.specs.declared.Kind.{Kind}
-use Rattle.block.specs.declared.Kind.the-variants.{StreamCount, SymbolWidth}
+use Rattle.block.proofs.Reading.{one-found, into-none, append-ended, append-refused}
+use Rattle.block.specs.Reading.{weakCount, headerSize, oneAt, Parse, byOne, numbersAt, andThen, partKinds, partAt, vectorSize, vectorKinds, readRecord, atEnd, readWhole, Got, got, into, mostNumbers}
+use Rattle.refusals.specs.declared.Kind.{Kind}
+use Rattle.refusals.specs.declared.Kind.the-variants.{StreamCount, SymbolWidth}
 use Rattle.block.specs.declared.One.{One}
 use Rattle.block.specs.declared.One.the-variants.{Taken, Turned}
 use Rattle.block.specs.declared.Read.{Read}
 use Rattle.block.specs.declared.Read.the-variants.{Ended, Refused}
-use Rattle.block.specs.declared.Refusal.{Refusal}
-use Rattle.block.specs.declared.Refusal.the-variants.{Opening}
-use Rattle.block.specs.declared.Part.the-variants.{First, Sizes, Vector}
+use Rattle.refusals.specs.declared.Refusal.{Refusal}
+use Rattle.block.specs.declared.Part.the-variants.{Vector}
+use Rattle.block.specs.declared.Layout.{Layout}
+use Rattle.block.specs.declared.Layout.the-variants.{Base, Weakened}
 use Rattle.block.proofs.Runs.{vector-numbers}
 
 -- A run of stores after another
@@ -78,27 +79,19 @@ all-allowed (k ∷ ks) bytes at next e = go (oneAt k bytes at) refl e (λ place.
         let n = one-found k bytes at z place f in (subst (λ (w : ℤ). allowed k w ≡ true) (n .is) (n .ranged), ih place g)
     go (Turned r) f g ih = let h : _≡_ {A = ℕ} 0 1 = cc in absurd (omega arith)
 
--- n vectors, after k of them
-module _ (m q : ℕ) (bytes : List ℕ) (place to : ℕ) (list list′ : List ℤ) where
-  pub vectors-ended : (n next : ℕ) → got (Ended next) list′ ≡ into to (partAt (Vector m q) bytes place) list
-      → into to (vectorsAt (suc n) m q bytes place) list ≡ into (to + vectorSize m q) (vectorsAt n m q bytes next) list′
-  unfolding vectorsAt
-  vectors-ended n next e =
-      then-ended (partAt (Vector m q) bytes place) (λ numbers next. vectorsAt n m q bytes next) to list list′ next e
-      ∙ ap (λ (k : ℕ). into (to + k) (vectorsAt n m q bytes next) list′)
-      (allowed-length (kindsOf (runsOf (Vector m q))) _ (all-allowed (kindsOf (runsOf (Vector m q))) bytes place next (sym (ap (λ (g : Got). g .read) e)))
-      ∙ vector-numbers m q)
-
-  pub vectors-refused : (n : ℕ) (r : Refusal) → got (Refused r) list′ ≡ into to (partAt (Vector m q) bytes place) list
-      → into to (vectorsAt (suc n) m q bytes place) list ≡ got (Refused r) list′
-  unfolding vectorsAt
-  vectors-refused n r e = then-refused (partAt (Vector m q) bytes place) (λ numbers next. vectorsAt n m q bytes next) to list list′ r e
+-- Numbers that are all in range, by their place
+pub allowed-at : (ks : List Kind) (zs : List ℤ) → AllAllowed ks zs → (i : ℕ) (d : Kind) → i < length ks
+    → allowed (getD ks i d) (getD zs i (pos 0)) ≡ true
+allowed-at [] zs a i d h = absurd (omega arith)
+allowed-at (k ∷ ks) [] a i d h = absurd a
+allowed-at (k ∷ ks) (z ∷ zs) a zero d h = a .0
+allowed-at (k ∷ ks) (z ∷ zs) a (suc i) d h = allowed-at ks zs (a .1) i d (omega arith)
 
 -- n vectors, after k of them
 module _ (n k m q : ℕ) (bytes : List ℕ) (place to : ℕ) (list : List ℤ) where
-  pub rest-none : n ≤ k → into to (vectorsAt (n - k) m q bytes place) list ≡ got (Ended place) list
-  unfolding vectorsAt
-  rest-none h = let e : n - k ≡ 0 = omega arith in rw e
+  pub rest-none : n ≤ k → into to (numbersAt (vectorKinds (n - k) m q) bytes place) list ≡ got (Ended place) list
+  unfolding vectorKinds
+  rest-none h = let e : n - k ≡ 0 = omega arith in rw e (into-none bytes place to list)
 
   module _ (h : k < n) where
     more : n - k ≡ suc (n - (k + 1))
@@ -108,73 +101,31 @@ module _ (n k m q : ℕ) (bytes : List ℕ) (place to : ℕ) (list : List ℤ) w
     rest-room s = ap (λ (x : ℕ). x * s) more ∙ suc-mul (n - (k + 1)) s
 
     pub rest-ended : (list′ : List ℤ) (next : ℕ) → got (Ended next) list′ ≡ into to (partAt (Vector m q) bytes place) list
-        → into to (vectorsAt (n - k) m q bytes place) list ≡ into (to + vectorSize m q) (vectorsAt (n - (k + 1)) m q bytes next) list′
-    rest-ended list′ next e = rw more (vectors-ended m q bytes place to list list′ (n - (k + 1)) next e)
+        → into to (numbersAt (vectorKinds (n - k) m q) bytes place) list
+        ≡ into (to + vectorSize m q) (numbersAt (vectorKinds (n - (k + 1)) m q) bytes next) list′
+    unfolding vectorKinds
+    rest-ended list′ next e =
+        rw more
+        (append-ended (vectorKinds (n - (k + 1)) m q) bytes (partKinds (Vector m q)) place to next list list′ e
+        ∙ ap (λ (s : ℕ). into (to + s) (numbersAt (vectorKinds (n - (k + 1)) m q) bytes next) list′) (vector-numbers m q))
 
     pub rest-refused : (list′ : List ℤ) (r : Refusal) → got (Refused r) list′ ≡ into to (partAt (Vector m q) bytes place) list
-        → into to (vectorsAt (n - k) m q bytes place) list ≡ got (Refused r) list′
-    rest-refused list′ r e = rw more (vectors-refused m q bytes place to list list′ (n - (k + 1)) r e)
+        → into to (numbersAt (vectorKinds (n - k) m q) bytes place) list ≡ got (Refused r) list′
+    unfolding vectorKinds
+    rest-refused list′ r e =
+        rw more (append-refused (vectorKinds (n - (k + 1)) m q) bytes (partKinds (Vector m q)) place to r list list′ e)
 
--- A number stored in a run is there afterwards
-pub getD-sets : {A : Type 0} (l vs : List A) (i j : ℕ) (d : A) → i + length vs ≤ length l → j < length vs → getD (sets l i vs) (i + j) d ≡ getD vs j d
-getD-sets l vs i j d room h =
-    ap (λ (x : List _). getD x (i + j) d) (sets-eq vs l i room)
-    ∙ List·getD-append (take i l ++ vs) (drop (i + length vs) l) d (i + j) (omega (arith, length-append (take i l) vs, front))
-    ∙ ap (λ (n : ℕ). getD (take i l ++ vs) (n + j) d) (sym front)
-    ∙ getD-append-add (take i l) vs j d
-  where
-    front : length (take i l) ≡ i
-    front = length-take-le i l (omega arith)
-
--- Q, N, C and D that were read whole
-pub record Sized (m : ℤ) (sizes : List ℤ) : Type 0 where
-  pub many : length sizes ≡ 4
-  pub width : allowed (SymbolWidth m) (getD sizes 0 (pos 0)) ≡ true
-  pub vectors : Plain 1 mostVectors (getD sizes 1 (pos 0))
-  pub clip : Plain 0 mostClip (getD sizes 2 (pos 0))
-  pub share : between m (pos mostShare) (getD sizes 3 (pos 0)) ≡ true
-
-pub sized : (m : ℤ) (sizes : List ℤ) → AllAllowed (kindsOf (runsOf (Sizes m))) sizes → Sized m sizes
-unfolding kindsOf runsOf
-sized m [] h = absurd h
-sized m (q ∷ []) h = absurd (h .1)
-sized m (q ∷ n ∷ []) h = absurd (h .1 .1)
-sized m (q ∷ n ∷ c ∷ []) h = absurd (h .1 .1 .1)
-sized m (q ∷ n ∷ c ∷ d ∷ []) h = record { many = refl; width = h .0; vectors = between-plain 1 mostVectors n (h .1 .0); clip = between-plain 0 mostClip c (h .1 .1 .0); share = h .1 .1 .1 .0 }
-sized m (q ∷ n ∷ c ∷ d ∷ x ∷ rest) h = absurd (h .1 .1 .1 .1)
-
--- Q, N, C and D as they were read
-abbrev pub sizesAt : ℤ → List ℕ → ℕ → List ℤ
-sizesAt m bytes at = partAt (Sizes m) bytes at .numbers
-
--- Behind Q, N, C and D that were stored whole from place 1 on stand the vectors
-module _ (m : ℤ) (bytes : List ℕ) (at next : ℕ) (list list′ : List ℤ) (e : got (Ended next) list′ ≡ into 1 (partAt (Sizes m) bytes at) list) where
-  pub sizes-are : Sized m (sizesAt m bytes at)
-  sizes-are = sized m _ (all-allowed (kindsOf (runsOf (Sizes m))) bytes at next (sym (ap (λ (g : Got). g .read) e)))
-
-  -- Entry 1 + j of the list is the j-th of them
-  pub size-at : length list ≡ mostNumbers → (j : ℕ) → j < 4 → getD list′ (1 + j) (pos 0) ≡ getD (sizesAt m bytes at) j (pos 0)
-  size-at len j h =
-      ap (λ (g : Got). getD (g .list) (1 + j) (pos 0)) e
-      ∙ getD-sets list (partAt (Sizes m) bytes at .numbers) 1 j (pos 0) (omega (arith, sizes-are .many, len)) (omega (arith, sizes-are .many))
-
-  pub sized-ended : into 1 (sizedAt m bytes at) list ≡ into 5 (vectorsAt (countAt 1 (sizesAt m bytes at)) (natAbs m) (countAt 0 (sizesAt m bytes at)) bytes next) list′
-  unfolding sizedAt
-  sized-ended =
-      then-ended (partAt (Sizes m) bytes at) _ 1 list list′ next e
-      ∙ ap (λ (n : ℕ). into (1 + n) (vectorsAt (countAt 1 (sizesAt m bytes at)) (natAbs m) (countAt 0 (sizesAt m bytes at)) bytes next) list′) (sizes-are .many)
-
--- Where the sizes were turned back, so is the rest
-pub sized-refused : (m : ℤ) (bytes : List ℕ) (at : ℕ) (r : Refusal) (list list′ : List ℤ) → got (Refused r) list′ ≡ into 1 (partAt (Sizes m) bytes at) list
-    → into 1 (sizedAt m bytes at) list ≡ got (Refused r) list′
-unfolding sizedAt
-sized-refused m bytes at r list list′ e = then-refused (partAt (Sizes m) bytes at) _ 1 list list′ r e
+-- No layout has more than one W
+pub weak-few : (o : Layout) → weakCount o ≤ 1
+weak-few Base = omega arith
+weak-few Weakened = omega arith
 
 -- All vectors of a record fit the list behind the header
-pub all-fit : (m q n : ℕ) → m ≤ mostStreams → m * q ≤ mostBits → n ≤ mostVectors → 5 + n * vectorSize m q ≤ mostNumbers
-all-fit m q n h k l =
+pub all-fit : (o : Layout) (m q n : ℕ) → m ≤ mostStreams → m * q ≤ mostBits → n ≤ mostVectors
+    → headerSize o + n * vectorSize m q ≤ mostNumbers
+all-fit o m q n h k l =
     let most : vectorSize m q ≤ 48 = omega (arith, mul-le-mul h h) in
-    omega (arith, mul-le-mul l most)
+    omega (arith, weak-few o, mul-le-mul l most)
 
 -- A plain number is its magnitude
 pub plain-most : {a b : ℕ} {z : ℤ} → Plain a b z → natAbs z ≤ b
@@ -209,53 +160,6 @@ label-most m z a b = ⊎-elim four three (eq-or-lt-of-le (streams .high))
     four e =
         let not-eight : width .value ≢ 8 = λ f. true≢false (rw (e, f) at uncrowded) in
         rw (streams .is, width .is) (mul-le-mul (streams .high) (width-other (width .value) (width .member) not-eight))
-
--- M that was read
-pub record Counted (first : List ℤ) : Type 0 where
-  pub many : length first ≡ 1
-  pub streams : allowed StreamCount (getD first 0 (pos 0)) ≡ true
-
-counted : (first : List ℤ) → AllAllowed (kindsOf (runsOf First)) first → Counted first
-unfolding kindsOf runsOf
-counted [] h = absurd h
-counted (m ∷ []) h = record { many = refl; streams = h .0 }
-counted (m ∷ z ∷ rest) h = absurd (h .1)
-
-abbrev pub firstAt : List ℕ → ℕ → List ℤ
-firstAt bytes at = partAt First bytes at .numbers
-
--- Behind M that was stored stands what it calls for
-module _ (bytes : List ℕ) (at next : ℕ) (list list′ : List ℤ) (e : got (Ended next) list′ ≡ into 0 (partAt First bytes at) list) where
-  pub first-is : Counted (firstAt bytes at)
-  first-is = counted _ (all-allowed (kindsOf (runsOf First)) bytes at next (sym (ap (λ (g : Got). g .read) e)))
-
-  pub first-at : length list ≡ mostNumbers → getD list′ 0 (pos 0) ≡ getD (firstAt bytes at) 0 (pos 0)
-  first-at len =
-      ap (λ (g : Got). getD (g .list) 0 (pos 0)) e
-      ∙ getD-sets list (firstAt bytes at) 0 0 (pos 0) (omega (arith, first-is .many, len)) (omega (arith, first-is .many))
-
-  pub same-length : length list′ ≡ length list
-  same-length = into-length 0 (partAt First bytes at) (Ended next) list list′ e
-
-  pub record-ended : into 0 (recordAt bytes at) list ≡ into 1 (sizedAt (getD (firstAt bytes at) 0 (pos 0)) bytes next) list′
-  unfolding recordAt
-  record-ended =
-      then-ended (partAt First bytes at) _ 0 list list′ next e
-      ∙ ap (λ (n : ℕ). into (0 + n) (sizedAt (getD (firstAt bytes at) 0 (pos 0)) bytes next) list′) (first-is .many)
-
-pub record-refused : (bytes : List ℕ) (at : ℕ) (r : Refusal) (list list′ : List ℤ) → got (Refused r) list′ ≡ into 0 (partAt First bytes at) list
-    → into 0 (recordAt bytes at) list ≡ got (Refused r) list′
-unfolding recordAt
-record-refused bytes at r list list′ e = then-refused (partAt First bytes at) _ 0 list list′ r e
-
--- The opening
-pub opened : (bytes : List ℕ) (list : List ℤ) → startsWith opening bytes ≡ true → into 0 (readRecord bytes) list ≡ into 0 (recordAt bytes 4) list
-unfolding readRecord
-opened bytes list e = rw e
-
-pub unopened : (bytes : List ℕ) (list : List ℤ) → startsWith opening bytes ≡ false → into 0 (readRecord bytes) list ≡ got (Refused Opening) list
-unfolding readRecord
-unopened bytes list e = rw e
 
 -- The end
 module _ (bytes : List ℕ) (list list′ : List ℤ) where

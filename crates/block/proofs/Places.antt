@@ -12,6 +12,7 @@ use Rattle.model.specs.Constellation.{Complex}
 use Rattle.model.specs.Metric.{Row, allPriors}
 use Rattle.model.proofs.Lists.{length-upFrom, getD-places}
 use Rattle.block.specs.Reading.{vectorSize, countAt}
+use Rattle.block.specs.declared.Layout.{Layout}
 use Rattle.block.specs.Contents.{complexAt, complexes, rowFrom, rowsFrom, rowsOf, vectorRows, blockOf}
 
 -- Two cuts are one
@@ -128,12 +129,12 @@ pub all-priors-at : (m q : ℕ) (numbers : List ℤ) (i : ℕ) → i < m * q
 all-priors-at m q numbers i h = rw (all-priors m q numbers, getD-take, getD-drop)
 
 -- A block has N vectors
-pub vectors-count : (numbers : List ℤ) → length (blockOf numbers .vectors) ≡ countAt 2 numbers
+pub vectors-count : (o : Layout) (numbers : List ℤ) → length (blockOf o numbers .vectors) ≡ countAt 2 numbers
 unfolding blockOf
-vectors-count numbers = length-upFrom (vectorRows numbers) 0 (countAt 2 numbers)
+vectors-count o numbers = length-upFrom (vectorRows o numbers) 0 (countAt 2 numbers)
 
 -- Vector k of a block, from 0
-pub vector-at : (numbers : List ℤ) (k : ℕ) (d : List Row) → k < countAt 2 numbers
-    → getD (blockOf numbers .vectors) k d ≡ vectorRows numbers k
+pub vector-at : (o : Layout) (numbers : List ℤ) (k : ℕ) (d : List Row) → k < countAt 2 numbers
+    → getD (blockOf o numbers .vectors) k d ≡ vectorRows o numbers k
 unfolding blockOf
-vector-at numbers k d h = getD-places (vectorRows numbers) d (countAt 2 numbers) k h
+vector-at o numbers k d h = getD-places (vectorRows o numbers) d (countAt 2 numbers) k h

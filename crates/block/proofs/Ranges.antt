@@ -1,7 +1,7 @@
 -- What a range test that passed says of the number.
 use Prim.Native.Nat.{ℕ, zero, suc, _+_, _*_, _/_, _%_, _≤_}
 use mathlib.Core.Path.{_≡_, refl, sym, _∙_, ap}
-use mathlib.Core.Bool.{Bool, true, false, cond, not, _&&_, _||_, true≢false}
+use mathlib.Core.Bool.{Bool, true, false, cond, not, _||_, true≢false}
 use mathlib.Core.List.{List, [], _∷_, List·Memᴰ·head, List·Memᴰ·tail}
 use native.Mathlib.Omega.{arith}
 use lib.Dec.{leb, eqb}
@@ -10,17 +10,10 @@ use lib.IntN.{ℤ, pos, negsuc, negℤ, natAbs}
 use lib.Signed.{leZ}
 use Rattle.model.specs.Block.{_∈_, widths, mostEntry, mostReceived, mostPrior}
 use Rattle.wire.specs.Folding.{unfolded}
-use Rattle.block.specs.Table.{between, oneOf, crowded, allowed}
+use Rattle.refusals.specs.Table.{between, oneOf, crowded, allowed}
 use Rattle.block.specs.Reading.{byNumber, Sure}
-use Rattle.block.specs.declared.Kind.the-variants.{SymbolWidth, RightPart, ReceivedPart, BitPrior}
-
-and-left : (a b : Bool) → (a && b) ≡ true → a ≡ true
-and-left true b e = refl
-and-left false b e = e
-
-and-right : (a b : Bool) → (a && b) ≡ true → b ≡ true
-and-right true b e = e
-and-right false b e = absurd (true≢false (sym e))
+use Rattle.refusals.proofs.Tests.{and-left, and-right}
+use Rattle.refusals.specs.declared.Kind.the-variants.{SymbolWidth, RightPart, ReceivedPart, BitPrior}
 
 -- A plain number from a to b
 pub record Plain (a b : ℕ) (z : ℤ) : Type 0 where

@@ -9,15 +9,15 @@ use lib.IntN.{ℤ}
 use Rattle.wire.specs.Reading.{numberAt, groups, lastGroup}
 use Rattle.wire.specs.declared.Number.{Number}
 use Rattle.wire.specs.declared.Number.the-variants.{Value, Short, Malformed}
-use Rattle.block.specs.Table.{allowed, refusalOf}
+use Rattle.refusals.specs.Table.{allowed, refusalOf}
 use Rattle.block.specs.Reading.{wholeOf, byNumber, oneAt, byOne, numbersAt, Got, got, into}
-use Rattle.block.specs.declared.Kind.{Kind}
-use Rattle.block.specs.declared.Kind.the-variants.{StreamCount}
+use Rattle.refusals.specs.declared.Kind.{Kind}
+use Rattle.refusals.specs.declared.Kind.the-variants.{StreamCount}
 use Rattle.block.specs.declared.One.{One}
 use Rattle.block.specs.declared.One.the-variants.{Taken, Turned}
 use Rattle.block.specs.declared.Read.the-variants.{Ended, Refused}
-use Rattle.block.specs.declared.Refusal.{Refusal}
-use Rattle.block.specs.declared.Refusal.the-variants.{Streams}
+use Rattle.refusals.specs.declared.Refusal.{Refusal}
+use Rattle.refusals.specs.declared.Refusal.the-variants.{Streams}
 
 -- "each number is read, then ranged, before the next": an M of 5 is out of range, though nothing follows it
 pub ranged-first : oneAt StreamCount (5 ∷ []) 0 ≡ Turned Streams

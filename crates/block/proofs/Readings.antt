@@ -1,14 +1,18 @@
--- Two computed readings: document 01's listing record says its block, and where each number of a vector of three rows belongs.
+-- Computed readings: document 01's listing record says its block, a record with W says its own, where W is turned back, and where each number
+-- of a vector of three rows belongs.
 use Prim.Native.Nat.{ℕ}
 use mathlib.Core.Path.{_≡_, refl}
-use mathlib.Core.List.{List, [], _∷_}
+use mathlib.Core.List.{List, [], _∷_, _++_}
 use lib.IntN.{ℤ, pos, negsuc}
 use Rattle.model.specs.Constellation.{Complex}
 use Rattle.model.specs.Metric.{Row}
 use Rattle.model.specs.Soft.{upFrom}
+use Rattle.model.specs.Block.{Block}
+use Rattle.block.specs.declared.Read.the-variants.{Refused}
+use Rattle.refusals.specs.declared.Refusal.the-variants.{Weak, Clip}
 use Rattle.wire.specs.Reading.{numberAt, groups, aboveDigits, lastGroup}
 use Rattle.wire.specs.Folding.{unfolded}
-use Rattle.block.specs.Reading.{byNumber, numbersAt, kindsOf, runsOf, matrixRuns, vectorsAt, sizedAt, recordAt, startsWith, readRecord}
+use Rattle.block.specs.Reading.{byNumber, numbersAt, kindsOf, runsOf, matrixRuns, vectorKinds, startsWith, layoutOf, stagesAt, readRecord}
 use Rattle.block.specs.Contents.{complexes, rowsFrom, rowsOf, blockOf}
 
 -- A complex number
@@ -28,12 +32,39 @@ rows =
     ∷ record { diagonal = 1; right = []; received = c (negsuc 0) (pos 0); priors = pos 0 ∷ [] }
     ∷ []
 
+-- What bytes say, if they are a record
+abbrev said : List ℕ → Block
+said bytes = blockOf (layoutOf bytes) (readRecord bytes .numbers)
+
 -- The listing record says this block
-pub listing-block : blockOf (readRecord listingRecord .numbers)
-    ≡ record { streams = 2; width = 1; clip = 10; share = 3; vectors = rows ∷ rows ∷ [] }
-unfolding blockOf readRecord recordAt sizedAt vectorsAt numbersAt kindsOf runsOf matrixRuns byNumber numberAt groups aboveDigits
+pub listing-block : said listingRecord ≡ record { streams = 2; width = 1; clip = 10; weak = 10; share = 3; vectors = rows ∷ rows ∷ [] }
+unfolding blockOf readRecord layoutOf stagesAt vectorKinds numbersAt kindsOf runsOf matrixRuns byNumber numberAt groups aboveDigits
     lastGroup unfolded startsWith rowsOf rowsFrom complexes upFrom
 listing-block = refl
+
+-- The same vector once in document 02's layout, with C = 10, W = 7 and D = 4
+abbrev pub weakenedRecord : List ℕ
+weakenedRecord =
+    0x43 ∷ 0x42 ∷ 0x52 ∷ 0x32 ∷ 0x02 ∷ 0x01 ∷ 0x01 ∷ 0x0A ∷ 0x07 ∷ 0x04 ∷ 0x01 ∷ 0x02 ∷ 0x00 ∷ 0x01 ∷ 0x02 ∷ 0x00 ∷ 0x01 ∷ 0x00 ∷ 0x00 ∷ 0x00 ∷ []
+
+pub weakened-block : said weakenedRecord ≡ record { streams = 2; width = 1; clip = 10; weak = 7; share = 4; vectors = rows ∷ [] }
+unfolding blockOf readRecord layoutOf stagesAt vectorKinds numbersAt kindsOf runsOf matrixRuns byNumber numberAt groups aboveDigits
+    lastGroup unfolded startsWith rowsOf rowsFrom complexes upFrom
+weakened-block = refl
+
+-- With W = 11 it is refused by 16, before D is looked at; with C above its range by 7, though W is out of its range too
+abbrev header : List ℕ
+header = 0x43 ∷ 0x42 ∷ 0x52 ∷ 0x32 ∷ 0x02 ∷ 0x01 ∷ 0x01 ∷ []
+
+pub weak-refused : readRecord (header ++ 0x0A ∷ 0x0B ∷ 0x00 ∷ []) .read ≡ Refused Weak
+unfolding readRecord layoutOf stagesAt vectorKinds numbersAt kindsOf runsOf matrixRuns byNumber numberAt groups aboveDigits
+    lastGroup unfolded startsWith
+weak-refused = refl
+
+pub clip-first : readRecord (header ++ 0x80 ∷ 0x80 ∷ 0x80 ∷ 0x08 ∷ 0x81 ∷ 0x80 ∷ 0x80 ∷ 0x08 ∷ []) .read ≡ Refused Clip
+unfolding readRecord layoutOf stagesAt vectorKinds numbersAt kindsOf runsOf matrixRuns byNumber numberAt groups aboveDigits
+    lastGroup unfolded startsWith
+clip-first = refl
 
 abbrev numbers : List ℤ
 numbers =

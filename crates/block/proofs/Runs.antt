@@ -1,4 +1,5 @@
--- The runs of a vector by their place: two for each row of R, then y, then the priors; and how many numbers they make.
+-- The runs of a vector by their place: two for each row of R, then y, then the priors; how many numbers they make; and the kinds of numbers
+-- by their place.
 use Prim.Native.Nat.{ℕ, zero, suc, _+_, _-_, _*_, _/_, _%_, _≤_, _<_}
 use mathlib.Core.Path.{_≡_, refl, _∙_, ap}
 use mathlib.Core.Logic.{_≢_}
@@ -6,17 +7,19 @@ use mathlib.Core.List.{List, [], _∷_, _++_}
 use native.Mathlib.Omega.{arith}
 use native.Mathlib.Nat.{suc-mul, mul-suc}
 use native.Mathlib.Numerals.{add-one}
-use lib.ListN.{length, getD, drop, replicate, length-append, length-replicate, drop-of-length-le}
+use lib.ListN.{length, getD, drop, replicate, length-append, length-replicate, getD-replicate, drop-of-length-le, List·getD-append}
 use lib.Seq.{drop-cons, getD-append-add}
 use lib.IntN.{ℤ}
-use Rattle.block.specs.Reading.{run, noRun, kindsOf, matrixRuns, runsOf, numbersAt, got, into}
+use Rattle.block.specs.Reading.{weakCount, sharePlace, headerSize, run, noRun, kindsOf, matrixRuns, runsOf, partKinds, numbersAt, got, into}
+use Rattle.block.specs.Contents.{headerKinds}
 use Rattle.block.proofs.Reading.{into-none, append-ended, append-refused}
-use Rattle.block.specs.declared.Kind.{Kind}
-use Rattle.block.specs.declared.Kind.the-variants.{DiagonalEntry, RightPart, ReceivedPart, BitPrior}
+use Rattle.refusals.specs.declared.Kind.{Kind}
+use Rattle.refusals.specs.declared.Kind.the-variants.{StreamCount, WeakLevel, NodeShare, DiagonalEntry, RightPart, ReceivedPart, BitPrior}
 use Rattle.block.specs.declared.Read.the-variants.{Ended, Refused}
-use Rattle.block.specs.declared.Refusal.{Refusal}
+use Rattle.refusals.specs.declared.Refusal.{Refusal}
 use Rattle.block.specs.declared.Run.{Run}
-use Rattle.block.specs.declared.Part.the-variants.{Vector}
+use Rattle.block.specs.declared.Part.the-variants.{First, Sizes, Limits, Vector}
+use Rattle.block.specs.declared.Layout.{Layout}
 
 matrix-count : (m : ℕ) → length (matrixRuns m) ≡ 2 * m
 unfolding matrixRuns
@@ -64,13 +67,54 @@ module _ (m q i : ℕ) where
   unfolding runsOf
   run-prior e = at i (length (matrixRuns m) + 1) (omega (arith, matrix-count m)) ∙ getD-append-add (matrixRuns m) (behind m q) 1 noRun
 
+-- The kind at a place of a list
+abbrev pub kindIn : List Kind → ℕ → Kind
+kindIn ks i = getD ks i StreamCount
+
+-- in front, and behind
+pub kind-in-front : (a b : List Kind) (i : ℕ) → i < length a → kindIn (a ++ b) i ≡ kindIn a i
+kind-in-front a b i h = List·getD-append a b StreamCount i h
+
+pub kind-behind : (a b : List Kind) (i : ℕ) → length a ≤ i → kindIn (a ++ b) i ≡ kindIn b (i - length a)
+kind-behind a b i h =
+    let e : i ≡ length a + (i - length a) = omega arith in
+    ap (kindIn (a ++ b)) e ∙ getD-append-add a b (i - length a) StreamCount
+
+pub kind-in-run : (k : Kind) (n : ℕ) (b : List Kind) (i : ℕ) → i < n → kindIn (replicate n k ++ b) i ≡ k
+kind-in-run k n b i h = kind-in-front (replicate n k) b i (omega (arith, length-replicate n k)) ∙ getD-replicate n i k StreamCount h
+
+pub kind-behind-run : (k : Kind) (n : ℕ) (b : List Kind) (i : ℕ) → n ≤ i → kindIn (replicate n k ++ b) i ≡ kindIn b (i - n)
+kind-behind-run k n b i h =
+    kind-behind (replicate n k) b i (omega (arith, length-replicate n k))
+    ∙ ap (λ (l : ℕ). kindIn b (i - l)) (length-replicate n k)
+
 -- How many runs, and how many numbers
 pub vector-runs : (m q : ℕ) → length (runsOf (Vector m q)) ≡ 2 * m + 2
 unfolding runsOf
 vector-runs m q = length-append (matrixRuns m) (behind m q) ∙ ap (λ (n : ℕ). n + 2) (matrix-count m)
 
-run-numbers : (k : Kind) (n : ℕ) (ks : List Kind) → length (replicate n k ++ ks) ≡ n + length ks
+pub run-numbers : (k : Kind) (n : ℕ) (ks : List Kind) → length (replicate n k ++ ks) ≡ n + length ks
 run-numbers k n ks = length-append (replicate n k) ks ∙ ap (λ (x : ℕ). x + length ks) (length-replicate n k)
+
+-- The header: as many numbers as its size, W behind C where there is one, D last
+module _ (o : Layout) (m c : ℤ) where
+  pub header-numbers : length (headerKinds o m c) ≡ headerSize o
+  unfolding kindsOf runsOf
+  header-numbers = omega (arith, run-numbers (WeakLevel c) (weakCount o) (NodeShare m ∷ []))
+
+  pub weak-kind : (i : ℕ) → 4 ≤ i → i < sharePlace o → kindIn (headerKinds o m c) i ≡ WeakLevel c
+  unfolding kindsOf runsOf
+  weak-kind i h k =
+      kind-behind (partKinds First ++ partKinds (Sizes m)) (partKinds (Limits (weakCount o) m c)) i (omega arith)
+      ∙ kind-in-run (WeakLevel c) (weakCount o) (NodeShare m ∷ []) (i - 4) (omega arith)
+
+  pub share-kind : kindIn (headerKinds o m c) (sharePlace o) ≡ NodeShare m
+  unfolding kindsOf runsOf
+  share-kind =
+      let last : sharePlace o - 4 - weakCount o ≡ 0 = omega arith in
+      kind-behind (partKinds First ++ partKinds (Sizes m)) (partKinds (Limits (weakCount o) m c)) (sharePlace o) (omega arith)
+      ∙ kind-behind-run (WeakLevel c) (weakCount o) (NodeShare m ∷ []) (sharePlace o - 4) (omega arith)
+      ∙ ap (kindIn (NodeShare m ∷ [])) last
 
 kinds-append : (a b : List Run) → length (kindsOf (a ++ b)) ≡ length (kindsOf a) + length (kindsOf b)
 unfolding kindsOf

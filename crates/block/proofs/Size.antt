@@ -6,26 +6,27 @@ use mathlib.Core.Bool.{true}
 use mathlib.Core.List.{List, [], _∷_, _++_}
 use native.Mathlib.Omega.{arith}
 use native.Mathlib.Nat.{suc-mul, mul-suc, mul-le-mul}
-use lib.ListN.{length}
+use lib.ListN.{length, getD}
 use lib.IntN.{ℤ, pos, negℤ}
 use Rattle.wire.specs.Writing.{bytesOf}
 use Rattle.wire.specs.Folding.{unfolded}
 use Rattle.wire.proofs.Writing.{bytesOf-short, bytesOf-most}
 use Rattle.wire.proofs.RoundTrip.{unfolded-below, read-ends}
 use Rattle.model.specs.Block.{mostStreams, mostBits, mostVectors, mostEntry, mostReceived, mostPrior}
-use Rattle.block.specs.Table.{between, allowed}
-use Rattle.block.specs.Reading.{wholeOf, oneAt, numbersAt, run, kindsOf, matrixRuns, runsOf, countAt, readRecord, longestRecord}
-use Rattle.block.specs.Contents.{blockOf, vectorKinds, recordKinds}
-use Rattle.block.specs.declared.Kind.{Kind}
-use Rattle.block.specs.declared.Kind.the-variants.{StreamCount, SymbolWidth, VectorCount, ClipLevel, NodeShare}
-use Rattle.block.specs.declared.Kind.the-variants.{DiagonalEntry, RightPart, ReceivedPart, BitPrior}
+use Rattle.refusals.specs.Table.{between, allowed}
+use Rattle.block.specs.Reading.{weakCount, wholeOf, oneAt, numbersAt, run, kindsOf, matrixRuns, runsOf, vectorKinds, countAt, layoutOf, readRecord, longestRecord}
+use Rattle.block.specs.Contents.{headerKinds, blockOf, recordKinds}
+use Rattle.block.specs.declared.Layout.{Layout}
+use Rattle.refusals.specs.declared.Kind.{Kind}
+use Rattle.refusals.specs.declared.Kind.the-variants.{StreamCount, SymbolWidth, VectorCount, ClipLevel, WeakLevel, NodeShare}
+use Rattle.refusals.specs.declared.Kind.the-variants.{DiagonalEntry, RightPart, ReceivedPart, BitPrior}
 use Rattle.block.specs.declared.One.the-variants.{Taken}
 use Rattle.block.specs.declared.Read.the-variants.{Ended}
 use Rattle.block.specs.declared.Run.{Run}
 use Rattle.block.specs.declared.Part.the-variants.{Vector}
 use Rattle.block.proofs.Ranges.{between-plain, between-signed, allowed-width}
 use Rattle.block.proofs.Reading.{one-found, numbers-keep}
-use Rattle.block.proofs.Parts.{plain-most, width-most}
+use Rattle.block.proofs.Parts.{weak-few, plain-most, width-most}
 use Rattle.block.proofs.Places.{vectors-count}
 use Rattle.block.proofs.Flat.{accepted-ends}
 use Rattle.block.proofs.Accepted.{accepted-in-range}
@@ -36,6 +37,7 @@ mostBytes StreamCount = 1
 mostBytes (SymbolWidth m) = 1
 mostBytes VectorCount = 1
 mostBytes ClipLevel = 4
+mostBytes (WeakLevel c) = 4
 mostBytes (NodeShare m) = 4
 mostBytes DiagonalEntry = 2
 mostBytes RightPart = 2
@@ -56,6 +58,7 @@ kind-bytes StreamCount n e = plain-bytes 1 mostStreams n (omega arith) 1 (omega 
 kind-bytes (SymbolWidth m) n e = let most = width-most (allowed-width m (pos n) e) in bytesOf-short 1 n (omega arith) (omega arith)
 kind-bytes VectorCount n e = plain-bytes 1 mostVectors n (omega arith) 1 (omega arith) e
 kind-bytes ClipLevel n e = bytesOf-most n
+kind-bytes (WeakLevel c) n e = bytesOf-most n
 kind-bytes (NodeShare m) n e = bytesOf-most n
 kind-bytes DiagonalEntry n e = plain-bytes 2 mostEntry n (omega arith) 1 (omega arith) e
 kind-bytes RightPart n e = folded-bytes 2 mostEntry n (omega arith) (omega arith) e
@@ -116,12 +119,23 @@ most-vectors (suc n) m q =
     let both = most-append (kindsOf (runsOf (Vector m q))) (vectorKinds n m q) in
     omega (arith, most-vector m q, most-vectors n m q, suc-mul n (vectorBytes m q))
 
-most-record : (numbers : List ℤ)
-    → mostOf (recordKinds numbers) ≡ 11 + countAt 2 numbers * vectorBytes (countAt 0 numbers) (countAt 1 numbers)
-unfolding recordKinds mostOf kindsOf runsOf
-most-record numbers = omega (arith, most-vectors (countAt 2 numbers) (countAt 0 numbers) (countAt 1 numbers))
+most-header : (o : Layout) (m c : ℤ) → mostOf (headerKinds o m c) ≡ 11 + 4 * weakCount o
+unfolding runsOf mostOf kindsOf
+most-header o m c = omega (arith, most-run (WeakLevel c) (weakCount o) (run (NodeShare m) 1 ∷ []))
 
--- An accepted record is at most 8,207 bytes
+most-record : (o : Layout) (numbers : List ℤ)
+    → mostOf (recordKinds o numbers) ≡ 11 + 4 * weakCount o + countAt 2 numbers * vectorBytes (countAt 0 numbers) (countAt 1 numbers)
+unfolding recordKinds
+most-record o numbers =
+    let header = headerKinds o (getD numbers 0 (pos 0)) (getD numbers 3 (pos 0)) in
+    let both = most-append header (vectorKinds (countAt 2 numbers) (countAt 0 numbers) (countAt 1 numbers)) in
+    omega (
+      arith,
+      most-header o (getD numbers 0 (pos 0)) (getD numbers 3 (pos 0)),
+      most-vectors (countAt 2 numbers) (countAt 0 numbers) (countAt 1 numbers),
+    )
+
+-- An accepted record is at most 8,211 bytes
 pub accepted-size : (bytes : List ℕ) (at : ℕ) → readRecord bytes .read ≡ Ended at → at ≤ longestRecord
 unfolding blockOf
 accepted-size bytes at e =
@@ -129,7 +143,7 @@ accepted-size bytes at e =
     let ranged = accepted-in-range bytes at e in
     let streams : countAt 0 numbers ≤ mostStreams = ranged .streams in
     let label : countAt 0 numbers * countAt 1 numbers ≤ mostBits = ranged .label in
-    let vectors : countAt 2 numbers ≤ mostVectors = omega (arith, ranged .vectors, vectors-count numbers) in
+    let vectors : countAt 2 numbers ≤ mostVectors = omega (arith, ranged .vectors, vectors-count (layoutOf bytes) numbers) in
     let most : vectorBytes (countAt 0 numbers) (countAt 1 numbers) ≤ 128 = omega (arith, mul-le-mul streams streams) in
-    let size = numbers-size (recordKinds numbers) bytes 4 at (accepted-ends bytes at e) in
-    omega (arith, most-record numbers, mul-le-mul vectors most)
+    let size = numbers-size (recordKinds (layoutOf bytes) numbers) bytes 4 at (accepted-ends bytes at e) in
+    omega (arith, most-record (layoutOf bytes) numbers, weak-few (layoutOf bytes), mul-le-mul vectors most)

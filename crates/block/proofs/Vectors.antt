@@ -13,25 +13,17 @@ use lib.ListN.{getD-replicate, List·getD-append}
 use lib.Seq.{getD-drop, drop-drop}
 use lib.IntN.{ℤ, pos}
 use Rattle.model.specs.Block.{Every, Within, BothWithin, RowsInRange, VectorInRange, mostEntry, mostReceived, mostPrior}
-use Rattle.block.specs.Table.{allowed}
+use Rattle.refusals.specs.Table.{allowed}
 use Rattle.block.specs.Reading.{run, kindsOf, matrixRuns, runsOf, vectorSize}
 use Rattle.block.specs.Contents.{complexes, rowsFrom, rowsOf}
-use Rattle.block.specs.declared.Kind.{Kind}
-use Rattle.block.specs.declared.Kind.the-variants.{DiagonalEntry, RightPart, ReceivedPart, BitPrior}
+use Rattle.refusals.specs.declared.Kind.{Kind}
+use Rattle.refusals.specs.declared.Kind.the-variants.{DiagonalEntry, RightPart, ReceivedPart, BitPrior}
 use Rattle.block.specs.declared.Run.{Run}
 use Rattle.block.specs.declared.Part.the-variants.{Vector}
 use Rattle.block.proofs.Ranges.{Plain, between-plain, between-signed}
 use Rattle.block.proofs.Runs.{vector-numbers}
-use Rattle.block.proofs.Parts.{AllAllowed, allowed-length, plain-most}
+use Rattle.block.proofs.Parts.{AllAllowed, allowed-at, allowed-length, plain-most}
 use Rattle.block.proofs.Places.{complexes-count, rows-from-count, row-start, rows-count}
-
--- Numbers that are all in range, by their place
-pub allowed-at : (ks : List Kind) (zs : List ℤ) → AllAllowed ks zs → (i : ℕ) (d : Kind) → i < length ks
-    → allowed (getD ks i d) (getD zs i (pos 0)) ≡ true
-allowed-at [] zs a i d h = absurd (omega arith)
-allowed-at (k ∷ ks) [] a i d h = absurd a
-allowed-at (k ∷ ks) (z ∷ zs) a zero d h = a .0
-allowed-at (k ∷ ks) (z ∷ zs) a (suc i) d h = allowed-at ks zs (a .1) i d (omega arith)
 
 -- In two parts
 pub allowed-parts : (ks ls : List Kind) (zs : List ℤ) → AllAllowed (ks ++ ls) zs

@@ -7,9 +7,10 @@ use Rattle.model.specs.Constellation.{Complex}
 use Rattle.model.specs.Metric.{Row}
 use Rattle.model.specs.Soft.{upFrom}
 use Rattle.model.specs.Block.{Block}
-use Rattle.block.specs.Reading.{kindsOf, runsOf, vectorSize, countAt}
-use Rattle.block.specs.declared.Kind.{Kind}
-use Rattle.block.specs.declared.Part.the-variants.{First, Sizes, Vector}
+use Rattle.block.specs.Reading.{weakCount, weakPlace, sharePlace, headerSize, partKinds, vectorKinds, vectorSize, countAt}
+use Rattle.refusals.specs.declared.Kind.{Kind}
+use Rattle.block.specs.declared.Part.the-variants.{First, Sizes, Limits}
+use Rattle.block.specs.declared.Layout.{Layout}
 
 -- The complex number at a place: "real and imaginary", side by side
 abbrev pub complexAt : List ℤ → ℕ → Complex
@@ -39,39 +40,32 @@ rowsFrom (suc later) q r y priors = rowFrom later q r y priors ∷ rowsFrom late
 unfoldable pub rowsOf : ℕ → ℕ → List ℤ → List Row
 rowsOf m q numbers = rowsFrom m q numbers (drop (m * m) numbers) (drop (m * m + 2 * m) numbers)
 
--- The numbers of vector k, from 0: behind M, Q, N, C, D and the vectors before it
-abbrev pub vectorNumbers : List ℤ → ℕ → List ℤ
-vectorNumbers numbers k = let size = vectorSize (countAt 0 numbers) (countAt 1 numbers) in take size (drop (5 + k * size) numbers)
+-- The numbers of vector k, from 0: behind the header and the vectors before it
+abbrev pub vectorNumbers : Layout → List ℤ → ℕ → List ℤ
+vectorNumbers layout numbers k =
+    let size = vectorSize (countAt 0 numbers) (countAt 1 numbers) in take size (drop (headerSize layout + k * size) numbers)
 
 -- Vector k, from 0
-abbrev pub vectorRows : List ℤ → ℕ → List Row
-vectorRows numbers k = rowsOf (countAt 0 numbers) (countAt 1 numbers) (vectorNumbers numbers k)
+abbrev pub vectorRows : Layout → List ℤ → ℕ → List Row
+vectorRows layout numbers k = rowsOf (countAt 0 numbers) (countAt 1 numbers) (vectorNumbers layout numbers k)
 
--- A record: "M, Q, N .., C .., D ... Then for each vector" its rows
-unfoldable pub blockOf : List ℤ → Block
-blockOf numbers = record {
+-- A record: "M, Q, N .., C .., D ... Then for each vector" its rows; W "directly after C", or C for it
+unfoldable pub blockOf : Layout → List ℤ → Block
+blockOf layout numbers = record {
   streams = countAt 0 numbers;
   width = countAt 1 numbers;
   clip = countAt 3 numbers;
-  share = countAt 4 numbers;
-  vectors = map (vectorRows numbers) (upFrom 0 (countAt 2 numbers));
+  weak = countAt (weakPlace layout) numbers;
+  share = countAt (sharePlace layout) numbers;
+  vectors = map (vectorRows layout numbers) (upFrom 0 (countAt 2 numbers));
 }
 
--- The kinds of M, Q, N, C and D
-abbrev pub headerKinds : ℤ → List Kind
-headerKinds m = kindsOf (runsOf First) ++ kindsOf (runsOf (Sizes m))
+-- The kinds of the numbers before the first vector, of which M and C tell
+abbrev pub headerKinds : Layout → ℤ → ℤ → List Kind
+headerKinds layout m c = partKinds First ++ partKinds (Sizes m) ++ partKinds (Limits (weakCount layout) m c)
 
--- The kinds of a vector's numbers
-abbrev pub kindsOfVector : ℕ → ℕ → List Kind
-kindsOfVector m q = kindsOf (runsOf (Vector m q))
-
--- The kinds of the numbers of n vectors
-unfoldable pub vectorKinds : ℕ → ℕ → ℕ → List Kind
-vectorKinds zero m q = []
-vectorKinds (suc n) m q = kindsOfVector m q ++ vectorKinds n m q
-
--- The kinds of a record's numbers, as its own M, Q and N call for them
-unfoldable pub recordKinds : List ℤ → List Kind
-recordKinds numbers =
-    headerKinds (getD numbers 0 (pos 0))
+-- The kinds of a record's numbers, as its own M, Q, N and C call for them
+unfoldable pub recordKinds : Layout → List ℤ → List Kind
+recordKinds layout numbers =
+    headerKinds layout (getD numbers 0 (pos 0)) (getD numbers 3 (pos 0))
     ++ vectorKinds (countAt 2 numbers) (countAt 0 numbers) (countAt 1 numbers)

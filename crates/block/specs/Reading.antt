@@ -13,17 +13,41 @@ use Rattle.wire.specs.Reading.{numberAt}
 use Rattle.wire.specs.Folding.{unfolded}
 use Rattle.wire.specs.declared.Number.{Number}
 use Rattle.wire.specs.declared.Number.the-variants.{Value, Short, Malformed}
-use Rattle.block.specs.Table.{allowed, isFolded, refusalOf}
-use Rattle.block.specs.declared.Kind.{Kind}
-use Rattle.block.specs.declared.Kind.the-variants.{StreamCount, SymbolWidth, VectorCount, ClipLevel, NodeShare, DiagonalEntry, RightPart, ReceivedPart, BitPrior}
-use Rattle.block.specs.declared.Refusal.the-variants.{Opening, Ends, Malformed as NoNumber, Trailing}
+use Rattle.refusals.specs.Table.{allowed, isFolded, refusalOf}
+use Rattle.refusals.specs.declared.Kind.{Kind}
+use Rattle.refusals.specs.declared.Kind.the-variants.{StreamCount, SymbolWidth, VectorCount, ClipLevel, WeakLevel, NodeShare, DiagonalEntry, RightPart, ReceivedPart, BitPrior}
+use Rattle.refusals.specs.declared.Refusal.the-variants.{Opening, Ends, Malformed as NoNumber, Trailing}
 use Rattle.block.specs.declared.One.{One}
 use Rattle.block.specs.declared.One.the-variants.{Taken, Turned}
 use Rattle.block.specs.declared.Read.{Read}
 use Rattle.block.specs.declared.Read.the-variants.{Ended, Refused}
 use Rattle.block.specs.declared.Run.{Run}
 use Rattle.block.specs.declared.Part.{Part}
-use Rattle.block.specs.declared.Part.the-variants.{First, Sizes, Vector}
+use Rattle.block.specs.declared.Part.the-variants.{First, Sizes, Limits, Vector}
+use Rattle.block.specs.declared.Layout.{Layout}
+use Rattle.block.specs.declared.Layout.the-variants.{Base, Weakened}
+
+-- The openings: document 01's, and document 02's, with which a record carries W
+abbrev pub opening : Layout → List ℕ
+opening Base = 0x43 ∷ 0x42 ∷ 0x52 ∷ 0x31 ∷ []
+opening Weakened = 0x43 ∷ 0x42 ∷ 0x52 ∷ 0x32 ∷ []
+
+-- How many numbers W stand "directly after C"
+abbrev pub weakCount : Layout → ℕ
+weakCount Base = 0
+weakCount Weakened = 1
+
+-- Where W stands among a record's numbers: behind C, or where "an older record has W = C", in C's own place
+abbrev pub weakPlace : Layout → ℕ
+weakPlace layout = 3 + weakCount layout
+
+-- Where D stands
+abbrev pub sharePlace : Layout → ℕ
+sharePlace layout = 4 + weakCount layout
+
+-- How many numbers stand before the first vector
+abbrev pub headerSize : Layout → ℕ
+headerSize layout = 5 + weakCount layout
 
 -- A number that was read, unfolded where its kind is folded
 abbrev pub wholeOf : Kind → ℕ → ℤ
@@ -83,64 +107,89 @@ unfoldable pub matrixRuns : ℕ → List Run
 matrixRuns zero = []
 matrixRuns (suc later) = run DiagonalEntry 1 ∷ run RightPart (2 * later) ∷ matrixRuns later
 
--- A part of a record: M; Q, N, C and D, of which Q and D are ranged by M; "then for each vector: R .. y, row 1 first, as folded real,
--- imaginary .. M × Q folded priors"
+-- A part of a record: M; Q, N and C, of which Q is ranged by M; so many numbers W, ranged by C, and D, ranged by M; "then for each vector:
+-- R .. y, row 1 first, as folded real, imaginary .. M × Q folded priors"
 unfoldable pub runsOf : Part → List Run
 runsOf First = run StreamCount 1 ∷ []
-runsOf (Sizes m) = run (SymbolWidth m) 1 ∷ run VectorCount 1 ∷ run ClipLevel 1 ∷ run (NodeShare m) 1 ∷ []
+runsOf (Sizes m) = run (SymbolWidth m) 1 ∷ run VectorCount 1 ∷ run ClipLevel 1 ∷ []
+runsOf (Limits n m c) = run (WeakLevel c) n ∷ run (NodeShare m) 1 ∷ []
 runsOf (Vector m q) = matrixRuns m ++ run ReceivedPart (2 * m) ∷ run BitPrior (m * q) ∷ []
 
 -- A vector's M and Q, and the bits of its label, are within their ranges
 abbrev pub Small : Part → Type 0
 Small First = Unit {0}
 Small (Sizes m) = Unit {0}
+Small (Limits n m c) = Unit {0}
 Small (Vector m q) = (m ≤ mostStreams) × (q ≤ mostWidth) × (m * q ≤ mostBits)
 
-abbrev pub partAt : Part → List ℕ → ℕ → Parse
-partAt p bytes at = numbersAt (kindsOf (runsOf p)) bytes at
+abbrev pub partKinds : Part → List Kind
+partKinds p = kindsOf (runsOf p)
 
--- How many numbers a record has at most: M, Q, N, C and D, and 48 for each of 64 vectors
+abbrev pub partAt : Part → List ℕ → ℕ → Parse
+partAt p bytes at = numbersAt (partKinds p) bytes at
+
+-- How many numbers a record has at most: M, Q, N, C, W and D, and 48 for each of 64 vectors
 abbrev pub mostNumbers : ℕ
-mostNumbers = 3077
+mostNumbers = 3078
 
 -- How many bytes a record has at most: four streams of 6 bits, 64 vectors, each number in its most groups
 abbrev pub longestRecord : ℕ
-longestRecord = 8207
+longestRecord = 8211
 
 -- How many numbers a vector has
 abbrev pub vectorSize : ℕ → ℕ → ℕ
 vectorSize m q = m * m + 2 * m + m * q
 
--- n vectors
-unfoldable pub vectorsAt : ℕ → ℕ → ℕ → List ℕ → ℕ → Parse
-vectorsAt zero m q bytes at = record { numbers = []; read = Ended at }
-vectorsAt (suc n) m q bytes at = andThen (partAt (Vector m q) bytes at) (λ numbers next. vectorsAt n m q bytes next)
+-- The kinds of a vector's numbers
+abbrev pub kindsOfVector : ℕ → ℕ → List Kind
+kindsOfVector m q = partKinds (Vector m q)
 
--- "43 42 52 31"
-abbrev pub opening : List ℕ
-opening = 0x43 ∷ 0x42 ∷ 0x52 ∷ 0x31 ∷ []
+-- The kinds of the numbers of n vectors
+unfoldable pub vectorKinds : ℕ → ℕ → ℕ → List Kind
+vectorKinds zero m q = []
+vectorKinds (suc n) m q = kindsOfVector m q ++ vectorKinds n m q
 
 unfoldable pub startsWith : List ℕ → List ℕ → Bool
 startsWith [] l = true
 startsWith (x ∷ p) [] = false
 startsWith (x ∷ p) (y ∷ l) = eqb x y && startsWith p l
 
+-- The layout of a record, by its opening: the newer one where it starts with "43 42 52 32", else the older, if it starts with "43 42 52 31"
+unfoldable pub layoutOf : List ℕ → Layout
+layoutOf bytes = cond (startsWith (opening Weakened) bytes) Weakened Base
+
 -- A record's i-th number, where it is a count
 abbrev pub countAt : ℕ → List ℤ → ℕ
 countAt i numbers = natAbs (getD numbers i (pos 0))
 
--- Q, N, C and D, then N vectors
-unfoldable pub sizedAt : ℤ → List ℕ → ℕ → Parse
-sizedAt m bytes at =
-    andThen (partAt (Sizes m) bytes at) (λ sizes next. vectorsAt (countAt 1 sizes) (natAbs m) (countAt 0 sizes) bytes next)
+-- A record's numbers come in stages, the kinds of each of which the numbers before it tell: M; Q, N and C; W, if the layout has it, and D;
+-- then N vectors
+abbrev pub streamStage : List ℤ → List Kind
+streamStage known = partKinds First
 
--- M, then what it calls for
-unfoldable pub recordAt : List ℕ → ℕ → Parse
-recordAt bytes at = andThen (partAt First bytes at) (λ first next. sizedAt (getD first 0 (pos 0)) bytes next)
+abbrev pub sizeStage : List ℤ → List Kind
+sizeStage known = partKinds (Sizes (getD known 0 (pos 0)))
+
+abbrev pub limitStage : Layout → List ℤ → List Kind
+limitStage layout known = partKinds (Limits (weakCount layout) (getD known 0 (pos 0)) (getD known 3 (pos 0)))
+
+abbrev pub vectorStage : List ℤ → List Kind
+vectorStage known = vectorKinds (countAt 2 known) (countAt 0 known) (countAt 1 known)
+
+abbrev pub stages : Layout → List (List ℤ → List Kind)
+stages layout = streamStage ∷ sizeStage ∷ limitStage layout ∷ vectorStage ∷ []
+
+-- The numbers of some stages, behind those that are known
+unfoldable pub stagesAt : List (List ℤ → List Kind) → List ℤ → List ℕ → ℕ → Parse
+stagesAt [] known bytes at = record { numbers = []; read = Ended at }
+stagesAt (s ∷ later) known bytes at =
+    andThen (numbersAt (s known) bytes at) (λ numbers next. stagesAt later (known ++ numbers) bytes next)
 
 -- A record: the opening, "first four bytes missing or different" being refused, and its numbers. It says where the record ended
 unfoldable pub readRecord : List ℕ → Parse
-readRecord bytes = cond (startsWith opening bytes) (recordAt bytes 4) (record { numbers = []; read = Refused Opening })
+readRecord bytes =
+    let layout = layoutOf bytes in
+    cond (startsWith (opening layout) bytes) (stagesAt (stages layout) [] bytes 4) (record { numbers = []; read = Refused Opening })
 
 -- "bytes follow the last prior"
 abbrev pub atEnd : ℕ → Read → Read
@@ -162,3 +211,14 @@ got r list = record { read = r; list = list }
 -- What was read, stored from a place on
 abbrev pub into : ℕ → Parse → List ℤ → Got
 into from p list = got (p .read) (sets list from (p .numbers))
+
+-- M stands in front of the lent list, in its range
+pub record StreamsStored (list : List ℤ) : Type 0 where
+  pub room : length list ≡ mostNumbers
+  pub streams : allowed StreamCount (getD list 0 (pos 0)) ≡ true
+
+-- and Q and N behind it
+pub record SizesStored (list : List ℤ) : Type 0 where
+  pub stored : StreamsStored list
+  pub width : allowed (SymbolWidth (getD list 0 (pos 0))) (getD list 1 (pos 0)) ≡ true
+  pub vectors : allowed VectorCount (getD list 2 (pos 0)) ≡ true

@@ -1,60 +1,30 @@
-// The block record: every list of bytes is read into its whole numbers, or refused by document 01's table with document 02's 15. Here stand
-// what the modules share, and the counts that a reader of the numbers asks for.
+// The block record: every list of bytes is read into its whole numbers, or refused by document 01's table with document 02's 15 and 16. Here
+// stand what the modules share, the layouts, and the counts that a reader of the numbers asks for.
 mod order;
 mod reader;
-mod table;
 
+pub use reader::layout_of;
 pub use reader::read_record;
 pub use reader::read_whole;
-pub use table::allowed;
-pub use table::is_folded;
-pub use table::refusal_number;
-pub use table::refusal_of;
-pub use table::refused;
+use refusals::Kind;
+use refusals::Refusal;
 ghost use mathlib.Core.Path.{_≡_};
 ghost use Prim.Native.Nat.{_<_, _≤_};
 ghost use lib.IntN.{natAbs};
 ghost use lib.ListN.{length};
 ghost use Rattle.model.specs.Block.{mostStreams, mostWidth};
-ghost use Rattle.block.specs.Reading.{countAt, vectorSize};
+ghost use Rattle.block.specs.Reading.{countAt, headerSize, opening, sharePlace, vectorSize, weakCount, weakPlace};
 
-// How many whole numbers a record has at most: 5 and 48 for each of 64 vectors.
-pub const MOST_NUMBERS: usize = 3077;
+// How many whole numbers a record has at most: 6 and 48 for each of 64 vectors.
+pub const MOST_NUMBERS: usize = 3078;
 
 // How many bytes it has at most.
-pub const MOST_BYTES: usize = 8207;
+pub const MOST_BYTES: usize = 8211;
 
-// Why a record is turned back; the definition refusalNumber has the documents' number for each.
-pub enum Refusal {
-    Opening,
-    Ends,
-    Malformed,
-    Streams,
-    Width,
-    Vectors,
-    Clip,
-    Share,
-    Diagonal,
-    Entry,
-    Received,
-    Prior,
-    Trailing,
-    Buffer,
-    // four streams of 256 points
-    Crowded,
-}
-
-// The kinds of number in a record, each with a range of its own; the symbol width's depends on M, the share's begins at M.
-pub enum Kind {
-    StreamCount,
-    SymbolWidth(i32),
-    VectorCount,
-    ClipLevel,
-    NodeShare(i32),
-    DiagonalEntry,
-    RightPart,
-    ReceivedPart,
-    BitPrior,
+// The layouts of a record, which its opening tells: document 01's, and document 02's, in which W follows C.
+pub enum Layout {
+    Base,
+    Weakened,
 }
 
 // A number taken and the place after it, or why the record is turned back there.
@@ -75,14 +45,54 @@ struct Run {
     count: usize,
 }
 
-// The parts of a record: M; Q, N, C and D; a vector with M and Q.
+// The parts of a record: M; Q, N and C, with M; so many numbers W, and D, with M and C; a vector with M and Q.
 enum Part {
     First,
     Sizes(i32),
+    Limits(usize, i32, i32),
     Vector(usize, usize),
 }
 
-pub const OPENING: [u8; 4] = [0x43, 0x42, 0x52, 0x31];
+// The four bytes that a record of a layout opens with.
+pub fn opening(layout: Layout) -> [u8; 4]
+    ensures { λ r. ⌜ r ≡ opening layout ⌝ }
+{
+    match layout {
+        Layout::Base => [0x43, 0x42, 0x52, 0x31],
+        Layout::Weakened => [0x43, 0x42, 0x52, 0x32],
+    }
+}
+
+// How many numbers W it has.
+fn weak_count(layout: Layout) -> usize
+    ensures { λ r. ⌜ r ≡ weakCount layout ⌝ }
+{
+    match layout {
+        Layout::Base => 0,
+        Layout::Weakened => 1,
+    }
+}
+
+// The place of W among its numbers: that of C, where there is no other.
+pub fn weak_place(layout: Layout) -> usize
+    ensures { λ r. ⌜ r ≡ weakPlace layout ⌝ }
+{
+    3 + weak_count(layout)
+}
+
+// The place of D.
+pub fn share_place(layout: Layout) -> usize
+    ensures { λ r. ⌜ r ≡ sharePlace layout ⌝ }
+{
+    4 + weak_count(layout)
+}
+
+// How many numbers stand before the first vector.
+pub fn header_size(layout: Layout) -> usize
+    ensures { λ r. ⌜ r ≡ headerSize layout ⌝ }
+{
+    5 + weak_count(layout)
+}
 
 // A count, of a number that is none below 0.
 pub fn count_of(z: i32) -> usize

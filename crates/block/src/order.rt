@@ -1,15 +1,15 @@
 // Which kinds of number a part of the record has, how many and in which order: document 01, "The record".
-use super::Kind;
 use super::Part;
 use super::Run;
+use refusals::Kind;
 ghost use mathlib.Core.Path.{_≡_};
 ghost use Prim.Native.Nat.{_+_, _*_, _<_};
 ghost use lib.ListN.{length, getD};
 ghost use Rattle.block.specs.Reading.{noRun, Small, runsOf};
 
-// The i-th run of Q, N, C and D.
+// The i-th run of Q, N and C.
 fn size_run(m: i32, i: usize) -> Run
-    requires { ⌜ i < 4 ⌝ }
+    requires { ⌜ i < 3 ⌝ }
     ensures { λ r. ⌜ r ≡ getD (runsOf (Part.Sizes m)) i noRun ⌝ }
 {
     match i {
@@ -21,9 +21,22 @@ fn size_run(m: i32, i: usize) -> Run
             kind: Kind::VectorCount,
             count: 1,
         },
-        2 => Run {
+        _ => Run {
             kind: Kind::ClipLevel,
             count: 1,
+        },
+    }
+}
+
+// The i-th run of n numbers W, which may be none, and D.
+fn limit_run(n: usize, m: i32, c: i32, i: usize) -> Run
+    requires { ⌜ i < 2 ⌝ }
+    ensures { λ r. ⌜ r ≡ getD (runsOf (Part.Limits n m c)) i noRun ⌝ }
+{
+    match i {
+        0 => Run {
+            kind: Kind::WeakLevel(c),
+            count: n,
         },
         _ => Run {
             kind: Kind::NodeShare(m),
@@ -68,7 +81,8 @@ pub(super) fn run_count(part: Part) -> usize
 {
     match part {
         Part::First => 1,
-        Part::Sizes(_) => 4,
+        Part::Sizes(_) => 3,
+        Part::Limits(_, _, _) => 2,
         Part::Vector(m, _) => 2 * m + 2,
     }
 }
@@ -84,6 +98,7 @@ pub(super) fn run_at(part: Part, i: usize) -> Run
             count: 1,
         },
         Part::Sizes(m) => size_run(m, i),
+        Part::Limits(n, m, c) => limit_run(n, m, c, i),
         Part::Vector(m, q) => vector_run(m, q, i),
     }
 }

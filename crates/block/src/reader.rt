@@ -1,26 +1,28 @@
 // The record's numbers, each read and then ranged before the next, or the first check that fails: document 01, "The record" and "Where a record
 // is turned back".
-use super::Kind;
+use super::Layout;
 use super::MOST_NUMBERS;
-use super::OPENING;
 use super::One;
 use super::Part;
 use super::Read;
-use super::Refusal;
 use super::count_of;
+use super::header_size;
+use super::opening;
 use super::order::run_at;
 use super::order::run_count;
-use super::table::allowed;
-use super::table::is_folded;
-use super::table::refusal_of;
 use super::vector_size;
+use super::weak_count;
+use refusals::Kind;
+use refusals::Refusal;
+use refusals::allowed;
+use refusals::is_folded;
+use refusals::refusal_of;
 use wire::Number;
 ghost use mathlib.Core.Path.{_≡_};
-ghost use mathlib.Core.Bool.{true};
+ghost use mathlib.Core.List.{[], _∷_};
 ghost use Prim.Native.Nat.{_+_, _*_, _<_, _≤_, _^_};
-ghost use lib.ListN.{length, replicate};
-ghost use Rattle.block.specs.Table.{allowed};
-ghost use Rattle.block.specs.Reading.{wholeOf, byNumber, oneAt, Sure, kindsOf, Small, mostNumbers, vectorSize, vectorsAt, sizedAt, numbersAt, runsOf, partAt, readRecord, readWhole, got, into, startsWith, opening};
+ghost use lib.ListN.{length, replicate, take};
+ghost use Rattle.block.specs.Reading.{opening, wholeOf, byNumber, oneAt, Sure, kindsOf, Small, mostNumbers, vectorSize, vectorKinds, numbersAt, runsOf, partAt, startsWith, layoutOf, sizeStage, limitStage, vectorStage, stagesAt, readRecord, readWhole, got, into, StreamsStored, SizesStored};
 
 // The number whose groups were read: unfolded where its kind is folded.
 fn whole(kind: Kind, n: u32) -> i32
@@ -150,7 +152,7 @@ fn read_vectors(
     from: usize,
 ) -> Read
     requires { ⌜ Small (Part.Vector m q) × (from + n * vectorSize m q ≤ mostNumbers) ⌝ }
-    ensures { λ r. ⌜ got r (now (numbers .exit)) ≡ into from (vectorsAt n m q (now (bytes .entry)) at) (now (numbers .entry)) ⌝ }
+    ensures { λ r. ⌜ got r (now (numbers .exit)) ≡ into from (numbersAt (vectorKinds n m q) (now (bytes .entry)) at) (now (numbers .entry)) ⌝ }
 {
     let size = vector_size(m, q);
     let mut place = at;
@@ -171,31 +173,50 @@ fn read_vectors(
     Read::Ended(place)
 }
 
-// Q, N, C and D, then N vectors, behind the M that was read.
-fn read_sized(bytes: &[u8], at: usize, m: i32, numbers: &mut [i32; MOST_NUMBERS]) -> Read
-    requires { ⌜ (allowed Kind.StreamCount m ≡ true) × (length (now numbers) ≡ mostNumbers) ⌝ }
-    ensures { λ r. ⌜ got r (now (numbers .exit)) ≡ into 1 (sizedAt m (now (bytes .entry)) at) (now (numbers .entry)) ⌝ }
+// W, if the layout has it, and D, then N vectors, behind M, Q, N and C, which stand in the list.
+fn read_limited(bytes: &[u8], at: usize, layout: Layout, numbers: &mut [i32; MOST_NUMBERS]) -> Read
+    requires { ⌜ SizesStored (now numbers) ⌝ }
+    ensures { λ r. ⌜ got r (now (numbers .exit))
+        ≡ into 4 (stagesAt (limitStage layout ∷ vectorStage ∷ []) (take 4 (now (numbers .entry))) (now (bytes .entry)) at) (now (numbers .entry)) ⌝ }
 {
-    match read_part(bytes, at, Part::Sizes(m), numbers, 1) {
+    let m = numbers[0];
+    let q = count_of(numbers[1]);
+    let n = count_of(numbers[2]);
+    let c = numbers[3];
+    let weak = weak_count(layout);
+    match read_part(bytes, at, Part::Limits(weak, m, c), numbers, 4) {
         Read::Ended(next) => {
-            let q = count_of(numbers[1]);
-            let n = count_of(numbers[2]);
-            read_vectors(bytes, next, count_of(m), q, n, numbers, 5)
+            let first = header_size(layout);
+            read_vectors(bytes, next, count_of(m), q, n, numbers, first)
         }
         Read::Refused(refusal) => Read::Refused(refusal),
     }
 }
 
-// Does the record begin with the opening?
-fn has_opening(bytes: &[u8]) -> bool
-    ensures { λ r. ⌜ r ≡ startsWith opening (now (bytes .entry)) ⌝ }
+// Q, N and C, then what they call for, behind M, which stands in the list.
+fn read_sized(bytes: &[u8], at: usize, layout: Layout, numbers: &mut [i32; MOST_NUMBERS]) -> Read
+    requires { ⌜ StreamsStored (now numbers) ⌝ }
+    ensures { λ r. ⌜ got r (now (numbers .exit))
+        ≡ into 1 (stagesAt (sizeStage ∷ limitStage layout ∷ vectorStage ∷ []) (take 1 (now (numbers .entry))) (now (bytes .entry)) at) (now (numbers .entry)) ⌝ }
+{
+    let m = numbers[0];
+    match read_part(bytes, at, Part::Sizes(m), numbers, 1) {
+        Read::Ended(next) => read_limited(bytes, next, layout, numbers),
+        Read::Refused(refusal) => Read::Refused(refusal),
+    }
+}
+
+// Does the record begin with the opening of a layout?
+fn has_opening(bytes: &[u8], layout: Layout) -> bool
+    ensures { λ r. ⌜ r ≡ startsWith (opening layout) (now (bytes .entry)) ⌝ }
 {
     if bytes.len() < 4 {
         return false;
     }
+    let first = opening(layout);
     let mut i = 0;
     while i < 4 {
-        if OPENING[i] != bytes[i] {
+        if first[i] != bytes[i] {
             return false;
         }
         i += 1;
@@ -203,19 +224,27 @@ fn has_opening(bytes: &[u8]) -> bool
     true
 }
 
+// The layout of a record, by its opening. Of bytes that open as no record does it is the base's.
+pub fn layout_of(bytes: &[u8]) -> Layout
+    ensures { λ r. ⌜ r ≡ layoutOf (now (bytes .entry)) ⌝ }
+{
+    if has_opening(bytes, Layout::Weakened) {
+        return Layout::Weakened;
+    }
+    Layout::Base
+}
+
 // A record at the front of the bytes: its whole numbers into the lent list, and where it ended. What was taken before a refusal stays.
 pub fn read_record(bytes: &[u8], numbers: &mut [i32; MOST_NUMBERS]) -> Read
     requires { ⌜ length (now numbers) ≡ mostNumbers ⌝ }
     ensures { λ r. ⌜ got r (now (numbers .exit)) ≡ into 0 (readRecord (now (bytes .entry))) (now (numbers .entry)) ⌝ }
 {
-    if !has_opening(bytes) {
+    let layout = layout_of(bytes);
+    if !has_opening(bytes, layout) {
         return Read::Refused(Refusal::Opening);
     }
     match read_part(bytes, 4, Part::First, numbers, 0) {
-        Read::Ended(next) => {
-            let m = numbers[0];
-            read_sized(bytes, next, m, numbers)
-        }
+        Read::Ended(next) => read_sized(bytes, next, layout, numbers),
         Read::Refused(refusal) => Read::Refused(refusal),
     }
 }

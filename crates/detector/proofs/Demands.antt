@@ -1,7 +1,7 @@
 -- The user's demands, of every record and every buffer: a call refuses exactly under the table's conditions, and the bytes of a reply say
 -- answers that meet demands 2 and 3. The theorem to read is `demands`.
 use Prim.Native.Nat.{ℕ, zero, suc, _+_, _-_, _≤_, _<_}
-use mathlib.Core.Path.{_≡_, refl, sym, _∙_, ap}
+use mathlib.Core.Path.{_≡_, refl, sym, _∙_, ap, ap₂}
 use mathlib.Core.Bool.{Bool, true, false, cond}
 use mathlib.Core.Logic.{_↔_, _⊎_, inl, inr}
 use mathlib.Core.List.{List, [], _∷_}
@@ -15,18 +15,19 @@ use Rattle.model.specs.Block.{Block, vectorOf, Answer, answers}
 use Rattle.model.specs.Demand.{Demand2, Demand3, ResultsFrom}
 use Rattle.model.proofs.Demand.{demand3 as answers-meet}
 use Rattle.model.proofs.Bounds.{shaped}
-use Rattle.block.specs.Reading.{readRecord, readWhole}
+use Rattle.block.specs.Reading.{layoutOf, readRecord, readWhole}
 use Rattle.block.specs.Contents.{blockOf}
 use Rattle.block.specs.Conditions.{Whole}
-use Rattle.block.specs.declared.Refusal.{Refusal}
-use Rattle.block.specs.declared.Refusal.the-variants.{Opening, Ends, Malformed, Streams, Width, Vectors, Clip, Share, Diagonal, Entry, Received, Prior, Trailing, Buffer, Crowded}
+use Rattle.block.specs.declared.Layout.{Layout}
+use Rattle.refusals.specs.declared.Refusal.{Refusal}
+use Rattle.refusals.specs.declared.Refusal.the-variants.{Opening, Ends, Malformed, Streams, Width, Vectors, Clip, Share, Diagonal, Entry, Received, Prior, Trailing, Buffer, Crowded, Weak}
 use Rattle.block.specs.declared.Read.{Read}
 use Rattle.block.specs.declared.Read.the-variants.{Ended, Refused}
-use Rattle.block.proofs.Fillings.{not-both}
+use Rattle.refusals.proofs.Fillings.{not-both}
 use Rattle.block.proofs.Conditions.{turned-back, whole-read, read-whole, whole-in-range}
 use Rattle.detector.specs.Reply.{replyOf, replyRoom}
-use Rattle.block.specs.Filling.{Filling, refused, filled, returned, bufferAfter}
-use Rattle.block.specs.Table.{refusalNumber}
+use Rattle.refusals.specs.Filling.{Filling, refused, filled, returned, bufferAfter}
+use Rattle.refusals.specs.Table.{refusalNumber}
 use Rattle.detector.specs.Outcome.{byRoom, byReading, outcome}
 use Rattle.detector.specs.Demand.{Condition, Accepted, nthAnswer, EachComplete, Met}
 use Rattle.detector.proofs.Outcomes.{room-short}
@@ -58,14 +59,15 @@ module _ (bytes : List ℕ) (room : ℕ) where
   -- A record that is turned back is refused
   turned-outcome : (r : Refusal) → readWhole bytes .read ≡ Refused r → outcome bytes room ≡ refused r
   unfolding outcome
-  turned-outcome r e = ap (byReading room (readWhole bytes .numbers)) e
+  turned-outcome r e = ap (byReading room (layoutOf bytes) (readWhole bytes .numbers)) e
 
   -- Of a whole record the buffer decides
-  pub whole-outcome : (w : Whole bytes (length bytes)) → outcome bytes room ≡ byRoom room (blockOf (w .numbers))
+  pub whole-outcome : (w : Whole bytes (length bytes)) → outcome bytes room ≡ byRoom room (blockOf (w .layout) (w .numbers))
   unfolding outcome readWhole
   whole-outcome w =
       let is = read-whole bytes w in
-      ap (byReading room (readRecord bytes .numbers)) (is .0) ∙ ap (λ (numbers : List ℤ). byRoom room (blockOf numbers)) (is .1)
+      ap (byReading room (layoutOf bytes) (readRecord bytes .numbers)) (is .0)
+      ∙ ap₂ (λ (layout : Layout) (numbers : List ℤ). byRoom room (blockOf layout numbers)) (is .2) (is .1)
 
   -- Every record is one or the other
   one-of-two : ((r : Refusal) × (readWhole bytes .read ≡ Refused r)) ⊎ Whole bytes (length bytes)
@@ -86,14 +88,14 @@ demand1 bytes room r = (λ e. holds e (one-of-two bytes room), refuses)
         let same : t .0 ≡ r = cc in
         inl (turned-back bytes r .0 (t .1 ∙ ap Refused same))
     holds e (inr w) =
-        let t = room-refused room (blockOf (w .numbers)) r (sym (whole-outcome bytes room w) ∙ e) in
+        let t = room-refused room (blockOf (w .layout) (w .numbers)) r (sym (whole-outcome bytes room w) ∙ e) in
         inr (t .0, record { whole = w; short = t .1 })
 
     refuses : Condition bytes room r → outcome bytes room ≡ refused r
     refuses (inl t) = turned-outcome bytes room r (turned-back bytes r .1 t)
     refuses (inr t) =
         let w = t .1 .whole in
-        whole-outcome bytes room w ∙ room-short room (blockOf (w .numbers)) (t .1 .short) ∙ ap refused (sym (t .0))
+        whole-outcome bytes room w ∙ room-short room (blockOf (w .layout) (w .numbers)) (t .1 .short) ∙ ap refused (sym (t .0))
 
 -- It replies exactly where no condition holds
 pub demand1-accepted : (bytes : List ℕ) (room : ℕ)
@@ -137,7 +139,7 @@ demand3 bytes room reply e = go (one-of-two bytes room)
     go : ((r : Refusal) × (readWhole bytes .read ≡ Refused r)) ⊎ Whole bytes (length bytes) → Accepted bytes reply × (length reply ≤ room)
     go (inl t) = absurd (not-both (turned-outcome bytes room (t .0) (t .1)) e)
     go (inr w) =
-        let b = blockOf (w .numbers) in
+        let b = blockOf (w .layout) (w .numbers) in
         let ranged = whole-in-range bytes (length bytes) w in
         let filled-by = room-filled room b reply (sym (whole-outcome bytes room w) ∙ e) in
         let meets = answers-meet b (shaped b ranged) in (
@@ -155,7 +157,8 @@ demand3 bytes room reply e = go (one-of-two bytes room)
 -- The refusals in the order of their numbers
 refusals : List Refusal
 refusals =
-    Opening ∷ Ends ∷ Malformed ∷ Streams ∷ Width ∷ Vectors ∷ Clip ∷ Share ∷ Diagonal ∷ Entry ∷ Received ∷ Prior ∷ Trailing ∷ Buffer ∷ Crowded ∷ []
+    Opening ∷ Ends ∷ Malformed ∷ Streams ∷ Width ∷ Vectors ∷ Clip ∷ Share ∷ Diagonal ∷ Entry ∷ Received ∷ Prior ∷ Trailing ∷ Buffer ∷ Crowded
+    ∷ Weak ∷ []
 
 -- The refusal that a returned number tells, if it does
 abbrev toldBy : ℤ → List Refusal
@@ -179,6 +182,7 @@ told Prior = refl
 told Trailing = refl
 told Buffer = refl
 told Crowded = refl
+told Weak = refl
 
 -- Different refusals have different numbers, so that the returned number tells which it is
 pub number-tells : (r s : Refusal) → negℤ (pos (refusalNumber r)) ≡ negℤ (pos (refusalNumber s)) → r ≡ s

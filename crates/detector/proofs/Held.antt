@@ -18,6 +18,7 @@ use Rattle.model.proofs.Bounds.{of-every, width-small, total-small}
 use Rattle.wire.specs.Folding.{folded}
 use Rattle.block.specs.Reading.{countAt}
 use Rattle.block.specs.Contents.{vectorRows, blockOf}
+use Rattle.block.specs.declared.Layout.{Layout}
 use Rattle.block.proofs.Places.{vectors-count, vector-at}
 use Rattle.search_spec.specs.Program.{answerOf}
 use Rattle.search.specs.Values.{Answered}
@@ -37,36 +38,44 @@ every-at f (z ∷ zs) (suc i) h k = every-at f zs i (h .1) (omega arith)
 
 module _ {h : Header} {list : List ℤ} (headed : Heads h list) where
   -- The header is the block's
-  pub streams-are : h .streams ≡ blockOf list .streams
+  pub streams-are : h .streams ≡ blockOf (h .layout) list .streams
   unfolding blockOf
   streams-are = headed .streams-is
 
-  pub width-are : h .width ≡ blockOf list .width
+  pub width-are : h .width ≡ blockOf (h .layout) list .width
   unfolding blockOf
   width-are = headed .width-is
 
-  pub vectors-are : h .vectors ≡ length (blockOf list .vectors)
-  vectors-are = headed .vectors-is ∙ sym (vectors-count list)
+  pub vectors-are : h .vectors ≡ length (blockOf (h .layout) list .vectors)
+  vectors-are = headed .vectors-is ∙ sym (vectors-count (h .layout) list)
 
-  share-are : h .share ≡ blockOf list .share
+  clip-are : h .clip ≡ blockOf (h .layout) list .clip
+  unfolding blockOf
+  clip-are = headed .clip-is
+
+  weak-are : h .weak ≡ blockOf (h .layout) list .weak
+  unfolding blockOf
+  weak-are = headed .weak-is
+
+  share-are : h .share ≡ blockOf (h .layout) list .share
   unfolding blockOf
   share-are = headed .share-is
 
-  total-is : h .vectors * h .share ≡ length (blockOf list .vectors) * blockOf list .share
+  total-is : h .vectors * h .share ≡ length (blockOf (h .layout) list .vectors) * blockOf (h .layout) list .share
   total-is = rw (vectors-are, share-are)
 
   -- The room that a reply asks for
-  pub room-is : replyRoom (blockOf list) ≡ 7 + h .vectors * (9 + 4 * h .streams * h .width)
+  pub room-is : replyRoom (blockOf (h .layout) list) ≡ 7 + h .vectors * (9 + 4 * h .streams * h .width)
   unfolding replyRoom
   room-is = rw (streams-are, width-are, vectors-are)
 
-module _ {h : Header} {list : List ℤ} (held : Holds list) (headed : Heads h list) where
+module _ {h : Header} {list : List ℤ} (held : Holds (h .layout) list) (headed : Heads h list) where
   -- M, Q and N are small, and N x D is a machine number
   pub few-streams : h .streams ≤ 4
   few-streams = omega (arith, streams-are headed, held .ranged .streams)
 
   pub few-bits : h .width ≤ mostWidth
-  few-bits = omega (arith, width-are headed, width-small (blockOf list .width) (held .ranged .width))
+  few-bits = omega (arith, width-are headed, width-small (blockOf (h .layout) list .width) (held .ranged .width))
 
   pub few-vectors : h .vectors ≤ 64
   few-vectors = omega (arith, vectors-are headed, held .ranged .vectors)
@@ -75,10 +84,14 @@ module _ {h : Header} {list : List ℤ} (held : Holds list) (headed : Heads h li
   few-soft = rw (streams-are headed, width-are headed) (held .ranged .label)
 
   pub total-fits : h .vectors * h .share < 2 ^ 32
-  total-fits = omega (arith, total-is headed, total-small (blockOf list) (held .ranged))
+  total-fits = omega (arith, total-is headed, total-small (blockOf (h .layout) list) (held .ranged))
+
+  -- W is at most C
+  pub weak-most : h .weak ≤ h .clip
+  weak-most = omega (arith, weak-are headed, clip-are headed, held .ranged .weak)
 
   -- The room is small
-  pub room-small : replyRoom (blockOf list) ≤ mostReply
+  pub room-small : replyRoom (blockOf (h .layout) list) ≤ mostReply
   room-small =
       let each : 9 + 4 * h .streams * h .width ≤ 105 = omega (arith, mul-assoc 4 (h .streams) (h .width), few-soft) in
       omega (arith, room-is headed, mul-le-mul few-vectors each)
@@ -91,55 +104,55 @@ module _ {h : Header} {list : List ℤ} (held : Holds list) (headed : Heads h li
       rw e (omega (arith, mul-le-mul-left (h .vectors) less))
 
 -- Vector k of the block
-abbrev vectorIn : List ℤ → ℕ → Vector
-vectorIn list k = vectorOf (blockOf list) (vectorRows list k)
+abbrev vectorIn : Layout → List ℤ → ℕ → Vector
+vectorIn o list k = vectorOf (blockOf o list) (vectorRows o list k)
 
 module _ {h : Header} {list : List ℤ} {k : ℕ} {points : List ℤ} {keys bits : ℕ} (s : SearchOneAsked h list k points keys bits) where
   -- It is one of those that the list holds
   pub inside : k < countAt 2 list
   inside = omega (arith, s .inside, s .headed .vectors-is)
 
-  vector-held : VectorInRange (blockOf list .streams) (blockOf list .width) (vectorRows list k)
+  vector-held : VectorInRange (blockOf (h .layout) list .streams) (blockOf (h .layout) list .width) (vectorRows (h .layout) list k)
   unfolding blockOf
   vector-held =
-      of-every (VectorInRange (blockOf list .streams) (blockOf list .width)) (blockOf list .vectors) (s .held .ranged .each)
-      (Memᴰ·map (vectorRows list) (in-upFrom 0 (countAt 2 list) k (omega arith) (omega (arith, inside))))
+      of-every (VectorInRange (blockOf (h .layout) list .streams) (blockOf (h .layout) list .width)) (blockOf (h .layout) list .vectors) (s .held .ranged .each)
+      (Memᴰ·map (vectorRows (h .layout) list) (in-upFrom 0 (countAt 2 list) k (omega arith) (omega (arith, inside))))
 
   -- The bits of its label, and its allowance
-  bits-of : labelBits (vectorIn list k) ≡ h .streams * h .width
-  bits-of = bits-are (blockOf list) vector-held ∙ rw (streams-are (s .headed), width-are (s .headed))
+  bits-of : labelBits (vectorIn (h .layout) list k) ≡ h .streams * h .width
+  bits-of = bits-are (blockOf (h .layout) list) vector-held ∙ rw (streams-are (s .headed), width-are (s .headed))
 
   module _ (spent : ℕ) where
-    allowance-is : h .vectors * h .share - spent - (h .vectors - (k + 1)) * h .streams ≡ allowanceAt list spent k
+    allowance-is : h .vectors * h .share - spent - (h .vectors - (k + 1)) * h .streams ≡ allowanceAt (h .layout) list spent k
     allowance-is = rw (total-is (s .headed), s .headed .vectors-is, streams-are (s .headed))
 
     -- Its count leaves M nodes for each vector behind it
     pub spent-more : spent + (h .vectors - k) * h .streams ≤ h .vectors * h .share
-        → spent + answerAt list spent k .count + (h .vectors - (k + 1)) * h .streams ≤ h .vectors * h .share
+        → spent + answerAt (h .layout) list spent k .count + (h .vectors - (k + 1)) * h .streams ≤ h .vectors * h .share
     unfolding answerAt
     spent-more left =
         let e : h .vectors - k ≡ suc (h .vectors - (k + 1)) = omega (arith, s .inside) in
         let one : (h .vectors - k) * h .streams ≡ (h .vectors - (k + 1)) * h .streams + h .streams = rw e (suc-mul _ (h .streams)) in
-        omega (arith, count-is (vectorIn list k) (allowanceAt list spent k), allowance-is)
+        omega (arith, count-is (vectorIn (h .layout) list k) (blockOf (h .layout) list .weak) (allowanceAt (h .layout) list spent k), allowance-is)
 
     -- The room that its answer takes
-    pub step-room : length (written (answerNumbers (answerAt list spent k))) ≤ 9 + 4 * h .streams * h .width
+    pub step-room : length (written (answerNumbers (answerAt (h .layout) list spent k))) ≤ 9 + 4 * h .streams * h .width
     unfolding answerAt
-    step-room = rw (streams-are (s .headed), width-are (s .headed)) (answer-room (s .held .ranged) vector-held (allowanceAt list spent k))
+    step-room = rw (streams-are (s .headed), width-are (s .headed)) (answer-room (s .held .ranged) vector-held (allowanceAt (h .layout) list spent k))
 
 -- What a search of vector k leaves
 module _ {h : Header} {list : List ℤ} {k : ℕ} {points : List ℤ} {keys : ℕ} {before : List ℤ}
     (s : SearchOneAsked h list k points keys (length before)) (spent : ℕ) {allowed : ℕ}
     (granted : allowed ≡ h .vectors * h .share - spent - (h .vectors - (k + 1)) * h .streams) {stopped : Bool} {count label : ℕ}
-    {after : List ℤ} (result : Answered (vectorIn list k) allowed stopped count label before after) where
-  found : Answered (vectorIn list k) (allowanceAt list spent k) stopped count label before after
+    {after : List ℤ} (result : Answered (vectorIn (h .layout) list k) (blockOf (h .layout) list .weak) allowed stopped count label before after) where
+  found : Answered (vectorIn (h .layout) list k) (blockOf (h .layout) list .weak) (allowanceAt (h .layout) list spent k) stopped count label before after
   found = rw (granted ∙ allowance-is s spent) at result
 
   abbrev soft : List ℤ
-  soft = answer (vectorIn list k) (allowanceAt list spent k) .result .soft
+  soft = answer (vectorIn (h .layout) list k) (blockOf (h .layout) list .weak) (allowanceAt (h .layout) list spent k) .result .soft
 
   soft-length : length soft ≡ h .streams * h .width
-  soft-length = soft-count (vectorIn list k) (allowanceAt list spent k) ∙ bits-of s
+  soft-length = soft-count (vectorIn (h .layout) list k) (blockOf (h .layout) list .weak) (allowanceAt (h .layout) list spent k) ∙ bits-of s
 
   -- The array holds the soft values, and behind them what stood there
   after-is : after ≡ soft ++ drop (h .streams * h .width) before
@@ -163,8 +176,8 @@ module _ {h : Header} {list : List ℤ} {k : ℕ} {points : List ℤ} {keys : �
   found-asked fits =
       let v = vector-held s in
       record {
-        counts = rw (found .count-is) (count-short (s .held .ranged) v (allowanceAt list spent k));
-        labels = rw (found .label-is) (label-short (s .held .ranged) v (allowanceAt list spent k));
+        counts = rw (found .count-is) (count-short (s .held .ranged) v (allowanceAt (h .layout) list spent k));
+        labels = rw (found .label-is) (label-short (s .held .ranged) v (allowanceAt (h .layout) list spent k));
         buffer = omega arith;
       }
 
@@ -177,11 +190,11 @@ module _ {h : Header} {list : List ℤ} {k : ℕ} {points : List ℤ} {keys : �
     each = λ i j.
         let inside : i < length soft = omega (arith, soft-length) in
         rw (after-is, List·getD-append soft (drop (h .streams * h .width) before) (pos 0) i inside)
-        (every-at folded soft i (soft-short (s .held .ranged) (vector-held s) (allowanceAt list spent k)) inside);
+        (every-at folded soft i (soft-short (s .held .ranged) (vector-held s) (allowanceAt (h .layout) list spent k)) inside);
   }
 
   -- As a whole it is the answer
-  answer-is : answerOf stopped count label (take (h .streams * h .width) after) ≡ answerAt list spent k
+  answer-is : answerOf stopped count label (take (h .streams * h .width) after) ≡ answerAt (h .layout) list spent k
   unfolding answerAt
   answer-is =
       let bits = h .streams * h .width in
@@ -192,36 +205,36 @@ module _ {h : Header} {list : List ℤ} {k : ℕ} {points : List ℤ} {keys : �
         result = record { label = found .label-is j; soft = front j };
       }
 
-  pub found-count : count ≡ answerAt list spent k .count
+  pub found-count : count ≡ answerAt (h .layout) list spent k .count
   found-count = ap (λ (x : Answer). x .count) answer-is
 
   -- which is written in two parts
   pub found-wrote : {l mid end : List ℕ} {at next last : ℕ} → Wrote l at (written (markOf stopped ∷ count ∷ label ∷ [])) mid next
       → Wrote mid next (written (map folded (take (h .streams * h .width) after))) end last
-      → Wrote l at (written (answerNumbers (answerAt list spent k))) end last
+      → Wrote l at (written (answerNumbers (answerAt (h .layout) list spent k))) end last
   found-wrote =
       let softs = map folded (take (h .streams * h .width) after) in
       wrote-both
       (ap (λ (x : Answer). written (answerNumbers x)) (sym answer-is) ∙ written-append (markOf stopped ∷ count ∷ label ∷ []) softs)
 
 -- What is left to write after k vectors, with `spent` nodes walked
-abbrev pub restOf : List ℤ → ℕ → ℕ → List ℕ
-restOf list spent k = written (answersNumbers (answersFrom (blockOf list) spent (drop k (blockOf list .vectors))))
+abbrev pub restOf : Layout → List ℤ → ℕ → ℕ → List ℕ
+restOf o list spent k = written (answersNumbers (answersFrom (blockOf o list) spent (drop k (blockOf o list .vectors))))
 
-module _ (list : List ℤ) (spent k : ℕ) where
+module _ (o : Layout) (list : List ℤ) (spent k : ℕ) where
   -- The answer of vector k, and what is left after it
   pub rest-more : k < countAt 2 list
-      → restOf list spent k ≡ written (answerNumbers (answerAt list spent k)) ++ restOf list (spent + answerAt list spent k .count) (k + 1)
+      → restOf o list spent k ≡ written (answerNumbers (answerAt o list spent k)) ++ restOf o list (spent + answerAt o list spent k .count) (k + 1)
   unfolding answerAt
   rest-more h =
-      let vs = blockOf list .vectors in
-      let some : k < length vs = omega (arith, vectors-count list) in
-      let first : drop k vs ≡ vectorRows list k ∷ drop (k + 1) vs = rw (drop-cons vs k [] some, vector-at list k [] h, add-one) in
-      let after : length (drop (k + 1) vs) ≡ countAt 2 list - (k + 1) = omega (arith, length-drop (k + 1) vs, vectors-count list) in
-      rw (first, ← after) (written-first (blockOf list) spent (vectorRows list k) (drop (k + 1) vs))
+      let vs = blockOf o list .vectors in
+      let some : k < length vs = omega (arith, vectors-count o list) in
+      let first : drop k vs ≡ vectorRows o list k ∷ drop (k + 1) vs = rw (drop-cons vs k [] some, vector-at o list k [] h, add-one) in
+      let after : length (drop (k + 1) vs) ≡ countAt 2 list - (k + 1) = omega (arith, length-drop (k + 1) vs, vectors-count o list) in
+      rw (first, ← after) (written-first (blockOf o list) spent (vectorRows o list k) (drop (k + 1) vs))
 
-  pub rest-none : countAt 2 list ≤ k → restOf list spent k ≡ []
+  pub rest-none : countAt 2 list ≤ k → restOf o list spent k ≡ []
   unfolding answersFrom answersNumbers written
   rest-none h =
-      let all : length (blockOf list .vectors) ≤ k = omega (arith, vectors-count list) in
-      rw (drop-of-length-le (blockOf list .vectors) all)
+      let all : length (blockOf o list .vectors) ≤ k = omega (arith, vectors-count o list) in
+      rw (drop-of-length-le (blockOf o list .vectors) all)

@@ -6,13 +6,13 @@ use borrow.Author.Tests.{lt-ltb, le-ltb}
 use lib.IntN.{ℤ}
 use lib.ListN.{length}
 use Rattle.model.specs.Block.{Block}
-use Rattle.block.specs.Reading.{readWhole, Got, got, into, mostNumbers}
+use Rattle.block.specs.Reading.{layoutOf, readWhole, Got, got, into, mostNumbers}
 use Rattle.block.specs.Contents.{blockOf}
-use Rattle.block.specs.declared.Refusal.{Refusal}
-use Rattle.block.specs.declared.Refusal.the-variants.{Buffer}
+use Rattle.refusals.specs.declared.Refusal.{Refusal}
+use Rattle.refusals.specs.declared.Refusal.the-variants.{Buffer}
 use Rattle.block.specs.declared.Read.the-variants.{Ended, Refused}
 use Rattle.detector.specs.Reply.{replyOf, replyRoom}
-use Rattle.block.specs.Filling.{refused, filled}
+use Rattle.refusals.specs.Filling.{refused, filled}
 use Rattle.detector.specs.Outcome.{byRoom, outcome}
 use Rattle.block.proofs.Lent.{lent-block}
 
@@ -29,7 +29,7 @@ module _ (room : ℕ) (b : Block) where
 module _ (bytes : List ℕ) (room : ℕ) (list list′ : List ℤ) where
   -- A record that was read into the lent list, and one that was refused
   pub when-ended : (at : ℕ) → length list ≡ mostNumbers → got (Ended at) list′ ≡ into 0 (readWhole bytes) list
-      → outcome bytes room ≡ byRoom room (blockOf list′)
+      → outcome bytes room ≡ byRoom room (blockOf (layoutOf bytes) list′)
   unfolding outcome
   when-ended at size e = rw (← ap (λ (g : Got). g .read) e, lent-block bytes at list list′ size e)
 

@@ -7,7 +7,7 @@ use native.Mathlib.Nat.{suc-mul}
 use native.Mathlib.Omega.{arith}
 use lib.Dec.{eqb}
 use lib.IntN.{ℤ}
-use lib.ListN.{length, take, drop, length-append, length-map}
+use lib.ListN.{length, drop, length-append, length-map}
 use lib.Seq.{drop-drop, drop-append-seam, take-at, drop-at}
 use Rattle.model.specs.Metric.{Row}
 use Rattle.model.specs.Block.{Block, vectorOf, Answer, allowance, answersFrom, answers, Every, VectorInRange, InRange}
@@ -89,7 +89,7 @@ module _ (b : Block) where
   unfolding answersFrom
   answers-bits [] h spent = tt
   answers-bits (rows ∷ later) h spent =
-      (soft-count (vectorOf b rows) (allowance b spent (length later)) ∙ bits-are b (h .0), answers-bits later (h .1) _)
+      (soft-count (vectorOf b rows) (b .weak) (allowance b spent (length later)) ∙ bits-are b (h .0), answers-bits later (h .1) _)
 
   -- What the reply of a block in range says
   pub read-back : InRange b → readBack (replyOf b) ≡ saying b (answers b) (length (replyOf b))

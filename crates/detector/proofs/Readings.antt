@@ -1,7 +1,6 @@
--- Document 01's reply to its listing record, computed from the definitions.
-use Prim.Native.Nat.{ℕ}
+-- Document 01's reply to its listing record, and one to a record with W, computed from the definitions.
 use mathlib.Core.Path.{_≡_, refl}
-use mathlib.Core.List.{List, [], _∷_}
+use mathlib.Core.List.{[], _∷_}
 use Rattle.model.specs.Constellation.{number, symbols, amplitude, point}
 use Rattle.model.specs.Metric.{dot, residual, priorCost, increment, metric, allPriors}
 use Rattle.model.specs.Order.{earlier}
@@ -11,20 +10,23 @@ use Rattle.model.specs.Block.{answer, answersFrom}
 use Rattle.wire.specs.Reading.{numberAt, groups, aboveDigits, lastGroup}
 use Rattle.wire.specs.Writing.{groupsOf, bytesOf}
 use Rattle.wire.specs.Folding.{folded, unfolded}
-use Rattle.block.specs.Reading.{byNumber, numbersAt, kindsOf, runsOf, matrixRuns, vectorsAt, sizedAt, recordAt, startsWith}
+use Rattle.block.specs.Reading.{byNumber, numbersAt, kindsOf, runsOf, matrixRuns, vectorKinds, startsWith, layoutOf, stagesAt}
 use Rattle.block.specs.Reading.{readRecord, readWhole}
 use Rattle.block.specs.Contents.{complexes, rowsFrom, rowsOf, blockOf}
-use Rattle.block.specs.Filling.{Filling, filled}
-use Rattle.block.proofs.Readings.{listingRecord}
+use Rattle.refusals.specs.Filling.{filled}
+use Rattle.block.proofs.Readings.{listingRecord, weakenedRecord}
 use Rattle.detector.specs.Reply.{answersNumbers, written, replyOf, replyRoom}
 use Rattle.detector.specs.Outcome.{byRoom, outcome}
 
--- "Reply: 43 42 53 31 02 01 02 01 04 02 0F 14 01 02 02 13 14", into the 7 + 2 × (9 + 4 × 2 × 1) = 41 bytes that are asked for
-pub reply-reading : outcome listingRecord 41
+-- "Reply: 43 42 53 31 02 01 02 01 04 02 0F 14 01 02 02 13 14", into the 7 + 2 × (9 + 4 × 2 × 1) = 41 bytes that are asked for. And the
+-- same vector once, with C = 10, W = 7 and D = 4: stopped at 4 nodes, label 2; bit 1 has both sides, -8, and bit 2 no walked label with 1: +7
+pub reply-readings : (outcome listingRecord 41
     ≡ filled
-    (0x43 ∷ 0x42 ∷ 0x53 ∷ 0x31 ∷ 0x02 ∷ 0x01 ∷ 0x02 ∷ 0x01 ∷ 0x04 ∷ 0x02 ∷ 0x0F ∷ 0x14 ∷ 0x01 ∷ 0x02 ∷ 0x02 ∷ 0x13 ∷ 0x14 ∷ [])
-unfolding outcome byRoom replyRoom replyOf answersNumbers written bytesOf groupsOf folded readWhole readRecord recordAt sizedAt vectorsAt
+    (0x43 ∷ 0x42 ∷ 0x53 ∷ 0x31 ∷ 0x02 ∷ 0x01 ∷ 0x02 ∷ 0x01 ∷ 0x04 ∷ 0x02 ∷ 0x0F ∷ 0x14 ∷ 0x01 ∷ 0x02 ∷ 0x02 ∷ 0x13 ∷ 0x14 ∷ []))
+    × (outcome weakenedRecord 24
+    ≡ filled (0x43 ∷ 0x42 ∷ 0x53 ∷ 0x31 ∷ 0x02 ∷ 0x01 ∷ 0x01 ∷ 0x01 ∷ 0x04 ∷ 0x02 ∷ 0x0F ∷ 0x0E ∷ []))
+unfolding outcome byRoom replyRoom replyOf answersNumbers written bytesOf groupsOf folded readWhole readRecord layoutOf stagesAt vectorKinds
     numbersAt kindsOf runsOf matrixRuns byNumber numberAt groups aboveDigits lastGroup unfolded startsWith blockOf rowsOf rowsFrom complexes
     upFrom number symbols amplitude point dot residual priorCost increment metric allPriors earlier leastOf those pick passes insert sort
     children walkBelow answer answersFrom
-reply-reading = refl
+reply-readings = (refl, refl)

@@ -15,13 +15,14 @@ use Rattle.model.specs.Constellation.{Bits, number}
 use Rattle.model.specs.Metric.{Row, Vector, labelBits, priorAt}
 use Rattle.model.specs.Soft.{Least, infinite, finite, leastWith, pick, softValue, softAt}
 use Rattle.model.specs.Walk.{isLeaf, walk, treeNodes}
-use Rattle.model.specs.Block.{Block, vectorOf, walkedNodes, walkedLabels, answer, allowance, answersFrom, answers}
+use Rattle.model.specs.Block.{Block, vectorOf, walkedNodes, walkedLabels, isStopped, emptySide, answer, allowance, answersFrom, answers}
 use Rattle.model.specs.Block.{_∈_, Every, Within, VectorInRange, InRange, mostClip, mostShare}
 use Rattle.model.proofs.Lists.{of-those, length-upFrom, every-upFrom}
 use Rattle.model.proofs.Numbers.{number-below}
 use Rattle.model.proofs.Least.{pick-in}
 use Rattle.model.proofs.Tree.{walk-at-most}
 use Rattle.model.proofs.Demand.{count-is}
+use Rattle.model.proofs.Weak.{empty-most}
 use Rattle.model.proofs.Bounds.{width-small, width-positive, tree-small}
 use Rattle.wire.specs.Reading.{numberAt}
 use Rattle.wire.specs.Writing.{bytesOf}
@@ -78,27 +79,32 @@ unfolding folded
 folded-short (pos n) h = omega arith
 folded-short (negsuc n) h = omega arith
 
--- A soft value is within its clip
-soft-within : (c : ℕ) (prior : ℤ) (with1 with0 : Least) → Within c (softValue c c prior with1 with0)
-soft-within c prior infinite with0 = omega arith
-soft-within c prior (finite d) infinite = omega (arith, natAbs-neg (pos c))
-soft-within c prior (finite d) (finite e) = clipped-within c (pos d -ℤ pos e -ℤ prior)
+-- A soft value is within its clip, as what an empty side gives is
+soft-within : (c empty : ℕ) → empty ≤ c → (prior : ℤ) (with1 with0 : Least) → Within c (softValue c empty prior with1 with0)
+soft-within c empty h prior infinite with0 = omega arith
+soft-within c empty h prior (finite d) infinite = omega (arith, natAbs-neg (pos empty))
+soft-within c empty h prior (finite d) (finite e) = clipped-within c (pos d -ℤ pos e -ℤ prior)
 
-module _ (v : Vector) (n : ℕ) where
+module _ (v : Vector) (weak n : ℕ) where
+  -- What an empty side gives
+  abbrev empty : ℕ
+  empty = emptySide (isStopped v n) weak (v .clip)
+
   -- An answer has a soft value for each bit of the label
-  pub soft-count : length (answer v n .result .soft) ≡ labelBits v
+  pub soft-count : length (answer v weak n .result .soft) ≡ labelBits v
   unfolding answer
-  soft-count = length-upFrom (softAt v (v .clip) (walkedLabels v n)) 0 (labelBits v)
+  soft-count = length-upFrom (softAt v empty (walkedLabels v n)) 0 (labelBits v)
 
-  -- each within the clip
-  soft-clipped : Every (Within (v .clip)) (answer v n .result .soft)
+  -- each within the clip, where W is
+  soft-clipped : weak ≤ v .clip → Every (Within (v .clip)) (answer v weak n .result .soft)
   unfolding answer
-  soft-clipped =
-      every-upFrom (Within (v .clip)) (softAt v (v .clip) (walkedLabels v n)) 0 (labelBits v)
-      (λ i h. soft-within (v .clip) (priorAt v i) (leastWith v i true (walkedLabels v n)) (leastWith v i false (walkedLabels v n)))
+  soft-clipped most =
+      every-upFrom (Within (v .clip)) (softAt v empty (walkedLabels v n)) 0 (labelBits v)
+      (λ i h. soft-within (v .clip) empty (empty-most (isStopped v n) most) (priorAt v i)
+      (leastWith v i true (walkedLabels v n)) (leastWith v i false (walkedLabels v n)))
 
   -- Its label is a whole one, or 0 where no leaf was walked
-  label-below : answer v n .result .label < 2 ^ labelBits v
+  label-below : answer v weak n .result .label < 2 ^ labelBits v
   unfolding answer pick number
   label-below = go (walkedLabels v n) (λ l h. eqb-true (length l) (labelBits v) (of-those (isLeaf v) l (walkedNodes v n) h .1))
     where
@@ -132,46 +138,48 @@ module _ {b : Block} (ranged : InRange b) {rows : List Row} (vector : VectorInRa
   bits-few = omega (arith, bits-are b vector, mul-le-mul (ranged .streams) (width-small (b .width) (ranged .width)))
 
   -- Nodes are counted up to the whole tree
-  pub count-short : Short (answer (vectorOf b rows) n .count)
+  pub count-short : Short (answer (vectorOf b rows) (b .weak) n .count)
   count-short =
       let v = vectorOf b rows in
       let walked : length (walk v) ≤ treeNodes (b .width) (length rows) = walk-at-most v (width-positive (b .width) (ranged .width)) in
       let tree : treeNodes (b .width) (length rows) ≤ mostShare =
       subst (λ (m : ℕ). treeNodes (b .width) m ≤ mostShare) (sym (vector .streams)) (tree-small b ranged) in
-      omega (arith, count-is v n)
+      omega (arith, count-is v (b .weak) n)
 
   -- A label has at most 24 bits
-  pub label-short : Short (answer (vectorOf b rows) n .result .label)
-  label-short = let most = pow-mono bits-few in omega (arith, label-below (vectorOf b rows) n)
+  pub label-short : Short (answer (vectorOf b rows) (b .weak) n .result .label)
+  label-short = let most = pow-mono bits-few in omega (arith, label-below (vectorOf b rows) (b .weak) n)
 
-  pub soft-short : Every Short (map folded (answer (vectorOf b rows) n .result .soft))
-  soft-short = folded-all (b .clip) (ranged .clip) (answer (vectorOf b rows) n .result .soft) (soft-clipped (vectorOf b rows) n)
+  pub soft-short : Every Short (map folded (answer (vectorOf b rows) (b .weak) n .result .soft))
+  soft-short =
+      folded-all (b .clip) (ranged .clip) (answer (vectorOf b rows) (b .weak) n .result .soft)
+      (soft-clipped (vectorOf b rows) (b .weak) n (ranged .weak))
 
-  answer-short : Every Short (answerNumbers (answer (vectorOf b rows) n))
-  answer-short = (omega (arith, mark-small (answer (vectorOf b rows) n .stopped)), (count-short, (label-short, soft-short)))
+  answer-short : Every Short (answerNumbers (answer (vectorOf b rows) (b .weak) n))
+  answer-short = (omega (arith, mark-small (answer (vectorOf b rows) (b .weak) n .stopped)), (count-short, (label-short, soft-short)))
 
   -- "9 + 4 × M × Q" bytes are enough for it
-  pub answer-room : length (written (answerNumbers (answer (vectorOf b rows) n))) ≤ 9 + 4 * b .streams * b .width
+  pub answer-room : length (written (answerNumbers (answer (vectorOf b rows) (b .weak) n))) ≤ 9 + 4 * b .streams * b .width
   answer-room =
-      let a = answer (vectorOf b rows) n in
+      let a = answer (vectorOf b rows) (b .weak) n in
       omega (
         arith,
         written-one (markOf (a .stopped)) (a .count ∷ a .result .label ∷ map folded (a .result .soft)) (mark-small (a .stopped)),
         written-most (a .count ∷ a .result .label ∷ map folded (a .result .soft)),
         length-map (a .result .soft) folded,
-        soft-count (vectorOf b rows) n,
+        soft-count (vectorOf b rows) (b .weak) n,
         bits-are b vector,
         mul-assoc 4 (b .streams) (b .width),
       )
 
 -- The first answer's bytes, and the others'
 pub written-first : (b : Block) (spent : ℕ) (rows : List Row) (later : List (List Row))
-    → let a = answer (vectorOf b rows) (allowance b spent (length later)) in
+    → let a = answer (vectorOf b rows) (b .weak) (allowance b spent (length later)) in
     written (answersNumbers (answersFrom b spent (rows ∷ later)))
     ≡ written (answerNumbers a) ++ written (answersNumbers (answersFrom b (spent + a .count) later))
 unfolding answersFrom answersNumbers
 written-first b spent rows later =
-    let a = answer (vectorOf b rows) (allowance b spent (length later)) in
+    let a = answer (vectorOf b rows) (b .weak) (allowance b spent (length later)) in
     written-append (answerNumbers a) (answersNumbers (answersFrom b (spent + a .count) later))
 
 module _ (b : Block) (ranged : InRange b) where
@@ -180,7 +188,7 @@ module _ (b : Block) (ranged : InRange b) where
   unfolding answersNumbers answersFrom
   answers-short [] h spent = tt
   answers-short (rows ∷ later) h spent =
-      let a = answer (vectorOf b rows) (allowance b spent (length later)) in
+      let a = answer (vectorOf b rows) (b .weak) (allowance b spent (length later)) in
       every-append Short (answerNumbers a) (answersNumbers (answersFrom b (spent + a .count) later))
       (answer-short ranged (h .0) (allowance b spent (length later))) (answers-short later (h .1) (spent + a .count))
 
@@ -189,7 +197,7 @@ module _ (b : Block) (ranged : InRange b) where
   unfolding written answersNumbers answersFrom
   answers-room [] h spent = zero-le
   answers-room (rows ∷ later) h spent =
-      let a = answer (vectorOf b rows) (allowance b spent (length later)) in
+      let a = answer (vectorOf b rows) (b .weak) (allowance b spent (length later)) in
       let rest = answersNumbers (answersFrom b (spent + a .count) later) in
       omega (
         arith,

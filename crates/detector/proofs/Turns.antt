@@ -30,23 +30,23 @@ pub record Answering (h : Header) (list : List ℤ) (buffer : List ℕ) (from n 
   pub enough : from + h .vectors * (9 + 4 * h .streams * h .width) ≤ length buffer
   pub room : at ≤ from + k * (9 + 4 * h .streams * h .width)
   pub left : spent + (h .vectors - k) * h .streams ≤ h .vectors * h .share
-  pub rest : Left buffer from (restOf list 0 0) now at (restOf list spent k)
+  pub rest : Left buffer from (restOf (h .layout) list 0 0) now at (restOf (h .layout) list spent k)
 
-module _ {h : Header} {list : List ℤ} (held : Holds list) (headed : Heads h list) where
+module _ {h : Header} {list : List ℤ} (held : Holds (h .layout) list) (headed : Heads h list) where
   abbrev head : List ℕ
   head = replyOpening ++ written (h .streams ∷ h .width ∷ h .vectors ∷ [])
 
   -- A reply is its head and the answers of all vectors
-  pub reply-is : replyOf (blockOf list) ≡ head ++ restOf list 0 0
+  pub reply-is : replyOf (blockOf (h .layout) list) ≡ head ++ restOf (h .layout) list 0 0
   unfolding replyOf
   reply-is =
-      let b = blockOf list in
+      let b = blockOf (h .layout) list in
       let joined = written-append (b .streams ∷ b .width ∷ length (b .vectors) ∷ []) (answersNumbers (answers b)) in
       rw (streams-are headed, width-are headed, vectors-are headed) (ap (λ (l : List ℕ). replyOpening ++ l) joined)
 
   -- After the head
   pub answering-none : {buffer mid : List ℕ} {n bits from : ℕ} → n ≡ h .vectors → bits ≡ 24 → from ≡ 7 → Wrote buffer 0 head mid from
-      → replyRoom (blockOf list) ≤ length buffer → Answering h list mid from n mid bits from 0 0
+      → replyRoom (blockOf (h .layout) list) ≤ length buffer → Answering h list mid from n mid bits from 0 0
   answering-none e array seven w enough = record {
     all = e;
     inside = omega arith;
@@ -73,7 +73,7 @@ module _ {h : Header} {list : List ℤ} (held : Holds list) (headed : Heads h li
 
     -- After it
     pub answering-more : {points : List ℤ} {keys : ℕ} → StepAsked h list k at spent points keys bits (length now) → k < n → {after : List ℕ} {bits′ at′ spent′ : ℕ} → bits′ ≡ 24
-        → Wrote now at (written (answerNumbers (answerAt list spent k))) after at′ → spent′ ≡ spent + answerAt list spent k .count
+        → Wrote now at (written (answerNumbers (answerAt (h .layout) list spent k))) after at′ → spent′ ≡ spent + answerAt (h .layout) list spent k .count
         → Answering h list buffer from n after bits′ at′ spent′ (k + 1)
     answering-more asked more array w e =
         let s = asked .search in
@@ -87,9 +87,9 @@ module _ {h : Header} {list : List ℤ} (held : Holds list) (headed : Heads h li
           enough = a .enough;
           room = rw (add-one k) (omega (arith, a .room, w .ends, step-room s spent));
           left = rw e (spent-more s spent (a .left));
-          rest = rw e (left-more (a .rest) (rest-more list spent k (inside s)) w);
+          rest = rw e (left-more (a .rest) (rest-more (h .layout) list spent k (inside s)) w);
         }
 
     -- After the last
-    pub answering-all : n ≤ k → Wrote buffer from (restOf list 0 0) now at
-    answering-all none = left-none (a .rest) (rest-none list spent k (omega (arith, a .all, headed .vectors-is)))
+    pub answering-all : n ≤ k → Wrote buffer from (restOf (h .layout) list 0 0) now at
+    answering-all none = left-none (a .rest) (rest-none (h .layout) list spent k (omega (arith, a .all, headed .vectors-is)))

@@ -1,4 +1,4 @@
--- Demand 1, from document 01, "Where a record is turned back": the conditions under which a call refuses; where none holds, it accepts.
+-- Demand 1, from document 01, "Where a record is turned back", with document 02's rows: the conditions under which a call refuses; where none holds, it accepts.
 -- Demands 2 and 3, of what the bytes of its reply say.
 use Prim.Native.Nat.{ℕ, _≤_, _<_}
 use mathlib.Core.Path.{_≡_}
@@ -12,16 +12,16 @@ use Rattle.model.specs.Block.{Block, vectorOf, Answer, InRange}
 use Rattle.model.specs.Demand.{Demand2, Demand3}
 use Rattle.block.specs.Contents.{blockOf}
 use Rattle.block.specs.Conditions.{Whole, TurnedBack}
-use Rattle.block.specs.Table.{refusalNumber}
-use Rattle.block.specs.declared.Refusal.{Refusal}
-use Rattle.block.specs.declared.Refusal.the-variants.{Buffer}
+use Rattle.refusals.specs.Table.{refusalNumber}
+use Rattle.refusals.specs.declared.Refusal.{Refusal}
+use Rattle.refusals.specs.declared.Refusal.the-variants.{Buffer}
 use Rattle.detector.specs.Reply.{replyRoom}
 use Rattle.detector.specs.ReadBack.{readBack, saying}
 
 -- The table's last row: the record is whole, and the buffer "shorter than 7 + N × (9 + 4 × M × Q)"
 pub record TooShort (bytes : List ℕ) (room : ℕ) : Type 0 where
   pub whole : Whole bytes (length bytes)
-  pub short : room < replyRoom (blockOf (whole .numbers))
+  pub short : room < replyRoom (blockOf (whole .layout) (whole .numbers))
 
 -- The table's condition for a refusal
 abbrev pub Condition : List ℕ → ℕ → Refusal → Type 0
@@ -58,11 +58,11 @@ pub record Refusing (bytes buffer : List ℕ) (number : ℤ) (after : List ℕ) 
 -- that block's M, Q and N and, to their end, the answers that were found; and of these demands 2 and 3 hold
 pub record Accepted (bytes reply : List ℕ) : Type 0 where
   pub whole : Whole bytes (length bytes)
-  pub ranged : InRange (blockOf (whole .numbers))
+  pub ranged : InRange (blockOf (whole .layout) (whole .numbers))
   pub found : List Answer
-  pub reads : readBack reply ≡ saying (blockOf (whole .numbers)) found (length reply)
-  pub demand3 : Demand3 (blockOf (whole .numbers)) found
-  pub demand2 : EachComplete (blockOf (whole .numbers)) found
+  pub reads : readBack reply ≡ saying (blockOf (whole .layout) (whole .numbers)) found (length reply)
+  pub demand3 : Demand3 (blockOf (whole .layout) (whole .numbers)) found
+  pub demand2 : EachComplete (blockOf (whole .layout) (whole .numbers)) found
 
 -- A call that was accepted: no row's condition holds, the reply stands in front of the buffer, and every other byte is as it was
 pub record Replying (bytes buffer : List ℕ) (number : ℤ) (after : List ℕ) : Type 0 where

@@ -7,10 +7,11 @@ use mathlib.Core.List.{List}
 use lib.Dec.{ltb}
 use lib.IntN.{ℤ}
 use Rattle.model.specs.Block.{Block}
-use Rattle.block.specs.Reading.{readWhole}
+use Rattle.block.specs.Reading.{layoutOf, readWhole}
+use Rattle.block.specs.declared.Layout.{Layout}
 use Rattle.block.specs.Contents.{blockOf}
-use Rattle.block.specs.Filling.{Filling, refused, filled}
-use Rattle.block.specs.declared.Refusal.the-variants.{Buffer}
+use Rattle.refusals.specs.Filling.{Filling, refused, filled}
+use Rattle.refusals.specs.declared.Refusal.the-variants.{Buffer}
 use Rattle.block.specs.declared.Read.{Read}
 use Rattle.block.specs.declared.Read.the-variants.{Ended, Refused}
 use Rattle.detector.specs.Reply.{replyOf, replyRoom}
@@ -19,10 +20,10 @@ use Rattle.detector.specs.Reply.{replyOf, replyRoom}
 unfoldable pub byRoom : ℕ → Block → Filling ℕ
 byRoom room b = cond (ltb room (replyRoom b)) (refused Buffer) (filled (replyOf b))
 
-abbrev pub byReading : ℕ → List ℤ → Read → Filling ℕ
-byReading room numbers (Ended at) = byRoom room (blockOf numbers)
-byReading room numbers (Refused r) = refused r
+abbrev pub byReading : ℕ → Layout → List ℤ → Read → Filling ℕ
+byReading room layout numbers (Ended at) = byRoom room (blockOf layout numbers)
+byReading room layout numbers (Refused r) = refused r
 
 -- Of any bytes, with a buffer of `room` bytes
 unfoldable pub outcome : List ℕ → ℕ → Filling ℕ
-outcome bytes room = byReading room (readWhole bytes .numbers) (readWhole bytes .read)
+outcome bytes room = byReading room (layoutOf bytes) (readWhole bytes .numbers) (readWhole bytes .read)

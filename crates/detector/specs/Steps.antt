@@ -5,9 +5,9 @@ use mathlib.Core.List.{List}
 use lib.IntN.{ℤ, pos}
 use lib.ListN.{length, getD}
 use Rattle.model.specs.Block.{Answer, vectorOf, answer, allowance, mostStreams, mostBits, mostVectors}
-use Rattle.wire.specs.Writing.{put}
 use Rattle.wire.specs.Folding.{folded}
-use Rattle.block.specs.Reading.{countAt}
+use Rattle.block.specs.Reading.{weakPlace, sharePlace, countAt}
+use Rattle.block.specs.declared.Layout.{Layout}
 use Rattle.block.specs.Contents.{vectorRows, blockOf}
 use Rattle.detector.specs.Reply.{replyRoom}
 use Rattle.constellation.specs.Points.{Points}
@@ -15,21 +15,23 @@ use Rattle.search.specs.Limits.{keyPlaces}
 use Rattle.search.specs.Holds.{Holds}
 use Rattle.detector.specs.declared.Header.{Header}
 
--- A header is that of the lent list
+-- A header is that of the lent list, by its layout
 pub record Heads (h : Header) (list : List ℤ) : Type 0 where
   pub streams-is : h .streams ≡ countAt 0 list
   pub width-is : h .width ≡ countAt 1 list
   pub vectors-is : h .vectors ≡ countAt 2 list
   pub clip-is : h .clip ≡ countAt 3 list
-  pub share-is : h .share ≡ countAt 4 list
+  pub weak-is : h .weak ≡ countAt (weakPlace (h .layout)) list
+  pub share-is : h .share ≡ countAt (sharePlace (h .layout)) list
 
 -- The allowance of vector k, from 0, after `spent` nodes were walked: N - (k + 1) vectors stand behind it
-abbrev pub allowanceAt : List ℤ → ℕ → ℕ → ℕ
-allowanceAt list spent k = allowance (blockOf list) spent (countAt 2 list - (k + 1))
+abbrev pub allowanceAt : Layout → List ℤ → ℕ → ℕ → ℕ
+allowanceAt layout list spent k = allowance (blockOf layout list) spent (countAt 2 list - (k + 1))
 
 -- and its answer
-unfoldable pub answerAt : List ℤ → ℕ → ℕ → Answer
-answerAt list spent k = answer (vectorOf (blockOf list) (vectorRows list k)) (allowanceAt list spent k)
+unfoldable pub answerAt : Layout → List ℤ → ℕ → ℕ → Answer
+answerAt layout list spent k =
+    answer (vectorOf (blockOf layout list) (vectorRows layout list k)) (blockOf layout list .weak) (allowanceAt layout list spent k)
 
 -- What writing n soft values asks: room for four groups each, and values that fit these
 pub record SoftAsked (at n : ℕ) (soft : List ℤ) (room : ℕ) : Type 0 where
@@ -54,7 +56,7 @@ pub record AllowanceAsked (h : Header) (spent k : ℕ) : Type 0 where
 
 -- What searching vector k asks: the lent list, its header, the points of its constellation, room for keys, and an array for the soft values
 pub record SearchOneAsked (h : Header) (list : List ℤ) (k : ℕ) (points : List ℤ) (keys bits : ℕ) : Type 0 where
-  pub held : Holds list
+  pub held : Holds (h .layout) list
   pub headed : Heads h list
   pub inside : k < h .vectors
   pub pointed : Points (h .width) points
@@ -69,6 +71,6 @@ pub record StepAsked (h : Header) (list : List ℤ) (k at spent : ℕ) (points :
 
 -- What a reply asks
 pub record ReplyAsked (h : Header) (list : List ℤ) (room : ℕ) : Type 0 where
-  pub held : Holds list
+  pub held : Holds (h .layout) list
   pub headed : Heads h list
-  pub buffer : replyRoom (blockOf list) ≤ room
+  pub buffer : replyRoom (blockOf (h .layout) list) ≤ room

@@ -1,8 +1,9 @@
 // The detector: one block record in, one reply out.
+use block::Layout;
 use block::Read;
-use block::Refusal;
 use constellation::PLACES;
 use metric::LABEL_BITS;
+use refusals::Refusal;
 use search::Found;
 use tree::Task;
 ghost use mathlib.Core.Path.{_≡_};
@@ -16,18 +17,20 @@ ghost use Rattle.block.specs.Reading.{mostNumbers};
 ghost use Rattle.block.specs.Contents.{vectorRows, blockOf};
 ghost use Rattle.search.specs.Values.{Answered};
 ghost use Rattle.detector.specs.Reply.{replyOpening, markOf, answerNumbers, written, replyOf};
-ghost use Rattle.block.specs.Filling.{returned, bufferAfter};
+ghost use Rattle.refusals.specs.Filling.{returned, bufferAfter};
 ghost use Rattle.detector.specs.Outcome.{outcome, byRoom};
 ghost use Rattle.search.specs.Holds.{Holds};
 ghost use Rattle.detector.specs.Steps.{Heads, answerAt};
 ghost use Rattle.detector.specs.Steps.{SoftAsked, FoundAsked, AllowanceAsked, SearchOneAsked, StepAsked, ReplyAsked};
 
-// A record's M, Q, N, C and D.
+// A record's M, Q, N, C, W and D, and its layout.
 struct Header {
+    layout: Layout,
     streams: usize,
     width: usize,
     vectors: usize,
     clip: u32,
+    weak: u32,
     share: u32,
 }
 
@@ -42,17 +45,19 @@ pub const MOST_REPLY: usize = 6727;
 
 const REPLY_OPENING: [u8; 4] = [0x43, 0x42, 0x53, 0x31];
 
-// The header of the lent list.
-fn header_of(numbers: &[i32]) -> Header
+// The header of the lent list, which has a layout.
+fn header_of(layout: Layout, numbers: &[i32]) -> Header
     requires { ⌜ length (now numbers) ≡ mostNumbers ⌝ }
-    ensures { λ r. ⌜ Heads r (now (numbers .entry)) ⌝ }
+    ensures { λ r. ⌜ (r .layout ≡ layout) × Heads r (now (numbers .entry)) ⌝ }
 {
     Header {
+        layout,
         streams: block::count_at(numbers, 0) as usize,
         width: block::count_at(numbers, 1) as usize,
         vectors: block::count_at(numbers, 2) as usize,
         clip: block::count_at(numbers, 3),
-        share: block::count_at(numbers, 4),
+        weak: block::count_at(numbers, block::weak_place(layout)),
+        share: block::count_at(numbers, block::share_place(layout)),
     }
 }
 
@@ -122,11 +127,12 @@ fn search_one(
     soft: &mut [i32; LABEL_BITS],
 ) -> Found
     requires { ⌜ SearchOneAsked h (now numbers) k (now points) (length (now keys)) (length (now soft)) ⌝ }
-    ensures { λ r. ⌜ Answered (vectorOf (blockOf (now (numbers .entry))) (vectorRows (now (numbers .entry)) k)) allowed
-        (r .stopped) (r .count) (r .label) (now (soft .entry)) (now (soft .exit)) ⌝ }
+    ensures { λ r. ⌜ Answered (vectorOf (blockOf (h .layout) (now (numbers .entry))) (vectorRows (h .layout) (now (numbers .entry)) k))
+        (blockOf (h .layout) (now (numbers .entry)) .weak) allowed (r .stopped) (r .count) (r .label) (now (soft .entry)) (now (soft .exit)) ⌝ }
 {
+    let layout = h.layout;
     let size = block::vector_size(h.streams, h.width);
-    let from = 5 + k * size;
+    let from = block::header_size(layout) + k * size;
     let to = from + size;
     let task = Task {
         streams: h.streams,
@@ -134,7 +140,7 @@ fn search_one(
         clip: h.clip,
         allowance: allowed,
     };
-    search::search_vector(task, points, &numbers[from..to], keys, soft)
+    search::search_vector(task, h.weak, points, &numbers[from..to], keys, soft)
 }
 
 // Vector k, from 0, is searched under what those before it left, and its answer is written.
@@ -149,9 +155,9 @@ fn answer_one(
     reply: &mut [u8],
 ) -> Step
     requires { ⌜ StepAsked h (now numbers) k (step .at) (step .spent) (now points) (length (now keys)) (length (now soft)) (length (now reply)) ⌝ }
-    ensures { λ r. ⌜ Wrote (now (reply .entry)) (step .at) (written (answerNumbers (answerAt (now (numbers .entry)) (step .spent) k)))
+    ensures { λ r. ⌜ Wrote (now (reply .entry)) (step .at) (written (answerNumbers (answerAt (h .layout) (now (numbers .entry)) (step .spent) k)))
         (now (reply .exit)) (r .at)
-        × (r .spent ≡ step .spent + answerAt (now (numbers .entry)) (step .spent) k .count)
+        × (r .spent ≡ step .spent + answerAt (h .layout) (now (numbers .entry)) (step .spent) k .count)
         × (length (now (soft .exit)) ≡ mostBits) ⌝ }
 {
     let allowed = allowance(h, step.spent, k);
@@ -166,7 +172,7 @@ fn answer_one(
 // The whole reply, vector by vector in record order; its length.
 fn answer_all(numbers: &[i32], h: Header, reply: &mut [u8]) -> usize
     requires { ⌜ ReplyAsked h (now numbers) (length (now reply)) ⌝ }
-    ensures { λ r. ⌜ Wrote (now (reply .entry)) 0 (replyOf (blockOf (now (numbers .entry)))) (now (reply .exit)) r ⌝ }
+    ensures { λ r. ⌜ Wrote (now (reply .entry)) 0 (replyOf (blockOf (h .layout) (now (numbers .entry)))) (now (reply .exit)) r ⌝ }
 {
     let mut points = [0i8; PLACES];
     constellation::fill(h.width, &mut points);
@@ -195,14 +201,14 @@ fn room(m: usize, q: usize, n: usize) -> usize
 }
 
 // The reply to the record that the lent list holds, if the buffer has room for any reply of its size.
-fn reply_to(numbers: &[i32], reply: &mut [u8]) -> i64
-    requires { ⌜ Holds (now numbers) ⌝ }
-    ensures { λ r. ⌜ (r ≡ returned (byRoom (length (now (reply .entry))) (blockOf (now (numbers .entry)))))
-        × (now (reply .exit) ≡ bufferAfter (byRoom (length (now (reply .entry))) (blockOf (now (numbers .entry)))) (now (reply .entry))) ⌝ }
+fn reply_to(layout: Layout, numbers: &[i32], reply: &mut [u8]) -> i64
+    requires { ⌜ Holds layout (now numbers) ⌝ }
+    ensures { λ r. ⌜ (r ≡ returned (byRoom (length (now (reply .entry))) (blockOf layout (now (numbers .entry)))))
+        × (now (reply .exit) ≡ bufferAfter (byRoom (length (now (reply .entry))) (blockOf layout (now (numbers .entry)))) (now (reply .entry))) ⌝ }
 {
-    let h = header_of(numbers);
+    let h = header_of(layout, numbers);
     if reply.len() < room(h.streams, h.width, h.vectors) {
-        return block::refused(Refusal::Buffer);
+        return refusals::refused(Refusal::Buffer);
     }
     answer_all(numbers, h, reply) as i64
 }
@@ -215,7 +221,7 @@ pub extern "C" fn geckoneedle_detect(record: &[u8], reply: &mut [u8]) -> i64
 {
     let mut numbers = [0i32; block::MOST_NUMBERS];
     match block::read_whole(record, &mut numbers) {
-        Read::Ended(_) => reply_to(&numbers, reply),
-        Read::Refused(refusal) => block::refused(refusal),
+        Read::Ended(_) => reply_to(block::layout_of(record), &numbers, reply),
+        Read::Refused(refusal) => refusals::refused(refusal),
     }
 }

@@ -6,6 +6,8 @@
 // enough: M = 1 with y = 2 and C = 5, 8, 9; y = 0; y = 2 with prior 10, and that with D = 1. M = 2 with D = 5, D = 4, C = 3, C = 0.
 // Then the edges: D = 1, D = 2, C = 16,777,216, buffers of 23, 24 and 30 bytes. The listing's record with 41 and 40 bytes. An empty
 // record; the listing's with a byte behind it, that with no buffer, and cut after 20 bytes; Q = 3, M = 5, N = 0. The first one again.
+// Then document 02's opening with W: M = 2 with C = 10, W = 7 and D = 4, 5; M = 1 with y = 2, C = 5, W = 0, and with prior 10, W = 3, D = 1;
+// W = C + 1; C and W above range; W in needless groups; and an opening that is none.
 use cases::Case;
 use libc::STDIN_FILENO;
 use libc::STDOUT_FILENO;
@@ -14,7 +16,7 @@ ghost use mathlib.Core.List.{_++_};
 ghost use Prim.Native.Nat.{_+_, _<_, _≤_};
 ghost use lib.ListN.{length, take, drop};
 ghost use Rattle.cases.specs.Cases.{lengthAt};
-ghost use Rattle.block.specs.Filling.{returned, bufferAfter};
+ghost use Rattle.refusals.specs.Filling.{returned, bufferAfter};
 ghost use Rattle.detector.specs.Outcome.{outcome};
 ghost use Rattle.detector_cases.specs.Bench.{hexDigit, allFill, secondAt, TwoWithin};
 

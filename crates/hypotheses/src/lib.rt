@@ -212,32 +212,39 @@ pub fn take(task: Task, leaf: Node, kept: Kept, numbers: &[i32], minima: &mut [u
     }
 }
 
-// A bit's soft value, from the least metric with it 1, the least with it 0, the prior and C.
-fn soft_value(one: u64, zero: u64, prior: i64, clip: u32) -> i32
-    requires { ⌜ (one ≤ above) × (zero ≤ above) × (natAbs prior < 2 ^ 31) × (clip ≤ mostClip) ⌝ }
-    ensures { λ r. ⌜ r ≡ softValue clip clip prior (sideOf one) (sideOf zero) ⌝ }
+// A bit's soft value, from the least metric with it 1, the least with it 0, the prior, C and what an empty side gives.
+fn soft_value(one: u64, zero: u64, prior: i64, clip: u32, empty: u32) -> i32
+    requires { ⌜ (one ≤ above) × (zero ≤ above) × (natAbs prior < 2 ^ 31) × (clip ≤ mostClip) × (empty ≤ clip) ⌝ }
+    ensures { λ r. ⌜ r ≡ softValue clip empty prior (sideOf one) (sideOf zero) ⌝ }
 {
     if one == ABOVE {
-        return clip as i32;
+        return empty as i32;
     }
     if zero == ABOVE {
-        return -(clip as i32);
+        return -(empty as i32);
     }
     integers::clip(one as i64 - zero as i64 - prior, clip)
 }
 
-// The soft values of all bits.
-pub fn write_soft(task: Task, numbers: &[i32], minima: &[u64], soft: &mut [i32; LABEL_BITS])
-    requires { ⌜ Asked task (now numbers) × MinimaLow (zerosOf (now minima)) (onesOf (now minima)) × (length (now minima) ≡ minimaSize) ⌝ }
+// The soft values of all bits; `empty` is what an empty side gives.
+pub fn write_soft(
+    task: Task,
+    empty: u32,
+    numbers: &[i32],
+    minima: &[u64],
+    soft: &mut [i32; LABEL_BITS],
+)
+    requires { ⌜ Asked task (now numbers) × (empty ≤ task .clip) × MinimaLow (zerosOf (now minima)) (onesOf (now minima))
+        × (length (now minima) ≡ minimaSize) ⌝ }
     ensures { λ _. ⌜ now (soft .exit)
-        ≡ filled (valueOf (vectorFor task (now (numbers .entry))) (takenIn 0 0 (now (minima .entry))))
+        ≡ filled (valueOf (vectorFor task (now (numbers .entry))) empty (takenIn 0 0 (now (minima .entry))))
         (task .streams * task .width) (now (soft .entry)) ⌝ }
 {
     let n = task.streams * task.width;
     let mut i = 0;
     while i < n {
         let prior = prior_at(task, numbers, i);
-        soft[i] = soft_value(minima[ONES + i], minima[i], prior, task.clip);
+        soft[i] = soft_value(minima[ONES + i], minima[i], prior, task.clip, empty);
         i += 1;
     }
 }

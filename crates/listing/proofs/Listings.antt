@@ -10,16 +10,17 @@ use lib.Seq.{length-take-le}
 use Rattle.wire.specs.Writing.{Wrote}
 use Rattle.io.specs.Counts.{Counts}
 use Rattle.wire.proofs.Writing.{put-start}
-use Rattle.block.specs.Table.{refusalNumber}
-use Rattle.block.specs.Reading.{countAt, readWhole, Got, got, into, mostNumbers}
+use Rattle.refusals.specs.Table.{refusalNumber}
+use Rattle.block.specs.Reading.{weakPlace, sharePlace, countAt, layoutOf, readWhole, Got, got, into, mostNumbers}
 use Rattle.block.specs.Contents.{blockOf}
-use Rattle.block.specs.declared.Refusal.{Refusal}
+use Rattle.block.specs.declared.Layout.{Layout}
+use Rattle.refusals.specs.declared.Refusal.{Refusal}
 use Rattle.block.specs.declared.Read.the-variants.{Ended, Refused}
 use Rattle.block.proofs.Lent.{lent-block}
 use Rattle.search.specs.Holds.{Holds}
 use Rattle.search.proofs.Records.{lent-holds}
 use Rattle.detector.specs.Reply.{replyOf, replyRoom, mostReply}
-use Rattle.block.specs.Filling.{filled}
+use Rattle.refusals.specs.Filling.{filled}
 use Rattle.detector.specs.Outcome.{outcome}
 use Rattle.detector.proofs.Replies.{reply-room}
 use Rattle.detector.proofs.Held.{room-small}
@@ -27,20 +28,22 @@ use Rattle.detector.proofs.Outcomes.{room-enough, when-ended}
 use Rattle.listing.specs.Text.{lineEnd, refusedWord, field, blockText, refusedLine, listingOf}
 
 -- A reply's room is small
-reply-small : {list : List ℤ} → Holds list → replyRoom (blockOf list) ≤ mostReply
-reply-small {list} held =
+reply-small : {o : Layout} {list : List ℤ} → Holds o list → replyRoom (blockOf o list) ≤ mostReply
+reply-small {o} {list} held =
     room-small
     {h = record {
+      layout = o;
       streams = countAt 0 list;
       width = countAt 1 list;
       vectors = countAt 2 list;
       clip = countAt 3 list;
-      share = countAt 4 list;
+      weak = countAt (weakPlace o) list;
+      share = countAt (sharePlace o) list;
     }}
-    held (record { streams-is = refl; width-is = refl; vectors-is = refl; clip-is = refl; share-is = refl })
+    held (record { streams-is = refl; width-is = refl; vectors-is = refl; clip-is = refl; weak-is = refl; share-is = refl })
 
-pub reply-fits : {list : List ℤ} → Holds list → length (replyOf (blockOf list)) ≤ mostReply
-reply-fits {list} held = le-trans (reply-room (blockOf list) (held .ranged)) (reply-small held)
+pub reply-fits : {o : Layout} {list : List ℤ} → Holds o list → length (replyOf (blockOf o list)) ≤ mostReply
+reply-fits {o} {list} held = le-trans (reply-room (blockOf o list) (held .ranged)) (reply-small held)
 
 -- All of a text that was written from the start on
 pub whole : {text bs all after : List ℕ} {r : ℕ} → all ≡ bs → r ≤ length text → Wrote text 0 bs after r
@@ -54,14 +57,14 @@ whole {text} {bs} {all} {after} {r} e fits w =
 module _ (bytes : List ℕ) (list list′ : List ℤ) where
   -- Of a record that was read into the lent list
   module _ (at : ℕ) (size : length list ≡ mostNumbers) (e : got (Ended at) list′ ≡ into 0 (readWhole bytes) list) where
-    pub listed-block : listingOf bytes ≡ blockText (blockOf list′)
+    pub listed-block : listingOf bytes ≡ blockText (blockOf (layoutOf bytes) list′)
     unfolding listingOf
     listed-block = rw (← ap (λ (g : Got). g .read) e, lent-block bytes at list list′ size e)
 
-    pub replied-block : (room : ℕ) → mostReply ≤ room → outcome bytes room ≡ filled (replyOf (blockOf list′))
+    pub replied-block : (room : ℕ) → mostReply ≤ room → outcome bytes room ≡ filled (replyOf (blockOf (layoutOf bytes) list′))
     replied-block room enough =
         when-ended bytes room list list′ at size e
-        ∙ room-enough room (blockOf list′) (le-trans (reply-small (lent-holds bytes at list list′ size e)) enough)
+        ∙ room-enough room (blockOf (layoutOf bytes) list′) (le-trans (reply-small (lent-holds bytes at list list′ size e)) enough)
 
   -- Of one that was refused by a number
   pub listed-refused : (r : Refusal) → got (Refused r) list′ ≡ into 0 (readWhole bytes) list → {n : ℕ} → n ≡ refusalNumber r

@@ -11,7 +11,8 @@ use lib.Seq.{take-add, take-take, drop-at, drop-drop, length-take-le}
 use Rattle.model.specs.Metric.{allPriors}
 use Rattle.model.specs.Block.{Answer, vectorOf}
 use Rattle.wire.specs.Folding.{folded}
-use Rattle.block.specs.Reading.{countAt, vectorSize, mostNumbers}
+use Rattle.block.specs.declared.Layout.{Layout}
+use Rattle.block.specs.Reading.{headerSize, countAt, vectorSize, mostNumbers}
 use Rattle.block.specs.Contents.{vectorNumbers, vectorRows, blockOf}
 use Rattle.block.proofs.Places.{rows-count, all-priors}
 use Rattle.search.specs.Holds.{Holds}
@@ -33,19 +34,19 @@ last-part : (n m : ℕ) (l : List ℤ) → n + m ≤ length l → drop n (take (
 last-part n m l h = ap (drop n) (take-add n m l) ∙ drop-at (take n l) (take m (drop n l)) n (length-take-le n l (omega arith))
 
 -- As many numbers of an answer as bits of a label, and three
-answer-count : (list : List ℤ) (spent k : ℕ) → length (answerNumbers (answerAt list spent k)) ≡ 3 + countAt 0 list * countAt 1 list
+answer-count : (o : Layout) (list : List ℤ) (spent k : ℕ) → length (answerNumbers (answerAt o list spent k)) ≡ 3 + countAt 0 list * countAt 1 list
 unfolding answerAt blockOf
-answer-count list spent k =
-    let soft = answerAt list spent k .result .soft in
+answer-count o list spent k =
+    let soft = answerAt o list spent k .result .soft in
     let bits : length soft ≡ countAt 0 list * countAt 1 list =
-    soft-count (vectorOf (blockOf list) (vectorRows list k)) (allowanceAt list spent k)
-    ∙ ap (λ (m : ℕ). m * countAt 1 list) (rows-count (countAt 0 list) (countAt 1 list) (vectorNumbers list k)) in
+    soft-count (vectorOf (blockOf o list) (vectorRows o list k)) (blockOf o list .weak) (allowanceAt o list spent k)
+    ∙ ap (λ (m : ℕ). m * countAt 1 list) (rows-count (countAt 0 list) (countAt 1 list) (vectorNumbers o list k)) in
     omega (arith, length-map soft folded, bits)
 
-module _ {h : Sizes} {list : List ℤ} (held : Holds list) (sized : Sized h list) (k : ℕ) (inside : k < countAt 2 list) where
+module _ {h : Sizes} {list : List ℤ} (held : Holds (h .layout) list) (sized : Sized h list) (k : ℕ) (inside : k < countAt 2 list) where
   -- Where vector k ends, and where its priors begin
   abbrev end : ℕ
-  end = 5 + (k + 1) * h .vector
+  end = headerSize (h .layout) + (k + 1) * h .vector
 
   abbrev from : ℕ
   from = end - h .bits
@@ -56,30 +57,30 @@ module _ {h : Sizes} {list : List ℤ} (held : Holds list) (sized : Sized h list
   abbrev q : ℕ
   q = countAt 1 list
 
-  end-is : end ≡ 5 + k * vectorSize m q + vectorSize m q
+  end-is : end ≡ headerSize (h .layout) + k * vectorSize m q + vectorSize m q
   end-is = rw (sized .vector-is, add-one k) (omega (arith, suc-mul k (vectorSize m q)))
 
   -- It ends within the list, and its priors within it
   pub end-small : end ≤ mostNumbers
-  end-small = omega (arith, end-is, vector-end list held m q refl refl k inside)
+  end-small = omega (arith, end-is, vector-end (h .layout) list held m q refl refl k inside)
 
   bits-few : h .bits ≤ 24
-  bits-few = omega (arith, sized .bits-is, sums list held m q refl refl .bits)
+  bits-few = omega (arith, sized .bits-is, sums (h .layout) list held m q refl refl .bits)
 
   pub bits-less : h .bits ≤ end
   bits-less = omega (arith, sized .bits-is, end-is)
 
   -- Its priors
-  priors-are : take (end - from) (drop from list) ≡ allPriors (vectorRows list k)
+  priors-are : take (end - from) (drop from list) ≡ allPriors (vectorRows (h .layout) list k)
   priors-are =
-      let start = 5 + k * vectorSize m q in
+      let start = headerSize (h .layout) + k * vectorSize m q in
       let size : end - from ≡ m * q = omega (arith, bits-less, sized .bits-is) in
       let place : from ≡ start + (m * m + 2 * m) = omega (arith, end-is, sized .bits-is) in
       let room : m * m + 2 * m + m * q ≤ length (drop start list) =
       omega (arith, length-drop start list, held .room, end-is, end-small) in
       let same : take (m * q) (take (m * q) (drop (m * m + 2 * m) (drop start list))) ≡ take (m * q) (drop from list) =
       rw (take-take (m * q) (m * q) (drop (m * m + 2 * m) (drop start list)) (le-refl (m * q)), drop-drop, place) in
-      rw size (sym (all-priors m q (vectorNumbers list k)
+      rw size (sym (all-priors m q (vectorNumbers (h .layout) list k)
       ∙ ap (take (m * q)) (last-part (m * m + 2 * m) (m * q) (drop start list) room) ∙ same))
 
   -- as many as bits of a label
@@ -92,17 +93,17 @@ module _ {h : Sizes} {list : List ℤ} (held : Holds list) (sized : Sized h list
 module _ {h : Sizes} {list : List ℤ} {reply : List ℕ} {k : ℕ} {step : Progress} {room : ℕ} (s : NumberedAsked h list reply k step room)
   where
     abbrev priors : List ℤ
-    priors = let end = 5 + (k + 1) * h .vector in take (end - (end - h .bits)) (drop (end - h .bits) list)
+    priors = let end = headerSize (h .layout) + (k + 1) * h .vector in take (end - (end - h .bits)) (drop (end - h .bits) list)
 
     abbrev a : Answer
-    a = answerAt list (step .total) k
+    a = answerAt (h .layout) list (step .total) k
 
     -- As many priors as bits, and as many numbers as the answer has
     few : length priors ≡ h .bits
     few = priors-many (s .held) (s .sized) k (s .inside)
 
     many : 3 + length priors ≡ length (answerNumbers a)
-    many = omega (arith, few, s .sized .bits-is, answer-count list (step .total) k)
+    many = omega (arith, few, s .sized .bits-is, answer-count (h .layout) list (step .total) k)
 
     -- The numbers that are taken from the reply are its answer's
     values-are : numbersFrom (3 + length priors) reply (step .place) ≡ answerNumbers a
@@ -120,7 +121,7 @@ module _ {h : Sizes} {list : List ℤ} {reply : List ℕ} {k : ℕ} {step : Prog
     }
 
     pub numbered : {text after : List ℕ} {next : Progress} → Listed text reply priors (k + 1) step after next
-        → Numbered text list reply k step after next
+        → Numbered text (h .layout) list reply k step after next
     numbered {text} {after} {next} l = record {
       line =
           wrote-same

@@ -1,7 +1,6 @@
 -- Document 01's listing, computed from its record, and a count of bits that go against their priors.
-use Prim.Native.Nat.{ℕ}
 use mathlib.Core.Path.{_≡_, refl}
-use mathlib.Core.List.{List, [], _∷_}
+use mathlib.Core.List.{[], _∷_}
 use lib.IntN.{pos, negsuc}
 use Rattle.model.specs.Constellation.{bitsOf, number, symbols, amplitude, point}
 use Rattle.model.specs.Metric.{dot, residual, priorCost, increment, metric, allPriors}
@@ -11,7 +10,7 @@ use Rattle.model.specs.Walk.{passes, insert, sort, children, walkBelow}
 use Rattle.model.specs.Block.{answer, answersFrom, totalCount}
 use Rattle.wire.specs.Reading.{numberAt, groups, aboveDigits, lastGroup}
 use Rattle.wire.specs.Folding.{unfolded}
-use Rattle.block.specs.Reading.{byNumber, numbersAt, kindsOf, runsOf, matrixRuns, vectorsAt, sizedAt, recordAt, startsWith}
+use Rattle.block.specs.Reading.{byNumber, numbersAt, kindsOf, runsOf, matrixRuns, vectorKinds, startsWith, layoutOf, stagesAt}
 use Rattle.block.specs.Reading.{readRecord, readWhole}
 use Rattle.block.specs.Contents.{complexes, rowsFrom, rowsOf, blockOf}
 use Rattle.block.proofs.Readings.{listingRecord}
@@ -32,7 +31,7 @@ pub listing-reading : listingOf listingRecord
     ∷ 50 ∷ 32 ∷ 115 ∷ 116 ∷ 111 ∷ 112 ∷ 112 ∷ 101 ∷ 100 ∷ 32 ∷ 50 ∷ 32 ∷ 50 ∷ 32 ∷ 48 ∷ 32 ∷ 45 ∷ 49 ∷ 48 ∷ 32 ∷ 49 ∷ 48 ∷ 10
     ∷ 116 ∷ 111 ∷ 116 ∷ 97 ∷ 108 ∷ 32 ∷ 54 ∷ 10
     ∷ []
-unfolding listingOf readWhole readRecord recordAt sizedAt vectorsAt numbersAt kindsOf runsOf matrixRuns byNumber numberAt groups aboveDigits
+unfolding listingOf readWhole readRecord layoutOf stagesAt vectorKinds numbersAt kindsOf runsOf matrixRuns byNumber numberAt groups aboveDigits
     lastGroup unfolded startsWith blockOf rowsOf rowsFrom complexes upFrom number symbols amplitude point dot residual priorCost increment
     metric allPriors earlier leastOf those pick passes insert sort children walkBelow answer answersFrom blockText headLine linesFrom
     totalLine totalCount vectorLine field decimalOf decimals againstIn bitsOf softText valueText

@@ -2,15 +2,15 @@
 use Prim.Native.Nat.{ℕ, zero, suc, _+_, _/_, _%_, _≤_}
 use mathlib.Core.Path.{_≡_}
 use mathlib.Core.Bool.{Bool, true, false, cond}
-use mathlib.Core.List.{List, [], _∷_, _++_, map}
-use lib.Dec.{ltb, eqb}
+use mathlib.Core.List.{List, [], _∷_, _++_}
+use lib.Dec.{ltb}
 use lib.IntN.{ℤ, pos, negsuc}
-use lib.ListN.{length, getD, drop}
+use lib.ListN.{length}
 use Rattle.model.specs.Metric.{Row, allPriors}
 use Rattle.model.specs.Block.{Block, Answer, answers, totalCount}
-use Rattle.wire.specs.Folding.{unfolded}
-use Rattle.block.specs.Table.{refusalNumber}
-use Rattle.block.specs.Reading.{readWhole}
+use Rattle.refusals.specs.Table.{refusalNumber}
+use Rattle.block.specs.Reading.{layoutOf, readWhole}
+use Rattle.block.specs.declared.Layout.{Layout}
 use Rattle.block.specs.Contents.{blockOf}
 use Rattle.block.specs.declared.Read.{Read}
 use Rattle.block.specs.declared.Read.the-variants.{Ended, Refused}
@@ -110,13 +110,13 @@ blockText b =
 unfoldable pub refusedLine : ℕ → List ℕ
 refusedLine n = field refusedWord n ++ lineEnd
 
-abbrev pub textRead : List ℤ → Read → List ℕ
-textRead numbers (Ended at) = blockText (blockOf numbers)
-textRead numbers (Refused r) = refusedLine (refusalNumber r)
+abbrev pub textRead : Layout → List ℤ → Read → List ℕ
+textRead layout numbers (Ended at) = blockText (blockOf layout numbers)
+textRead layout numbers (Refused r) = refusedLine (refusalNumber r)
 
 -- What is printed of any bytes
 unfoldable pub listingOf : List ℕ → List ℕ
-listingOf bytes = textRead (readWhole bytes .numbers) (readWhole bytes .read)
+listingOf bytes = textRead (layoutOf bytes) (readWhole bytes .numbers) (readWhole bytes .read)
 
 -- The most bytes of a vector's line, and of a listing: a first line of at most 87, 64 vectors, a last line of at most 17
 abbrev pub mostLine : ℕ

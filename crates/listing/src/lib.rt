@@ -1,4 +1,5 @@
 // The listing of a record's answers as text, a line for each vector.
+use block::Layout;
 use block::Read;
 use wire::Number;
 ghost use mathlib.Core.Path.{_≡_};
@@ -27,8 +28,9 @@ struct Taken {
     place: usize,
 }
 
-// How many numbers a vector of a record has, and how many bits a label.
+// A record's layout, how many numbers a vector of it has, and how many bits a label.
 struct Sizes {
+    layout: Layout,
     vector: usize,
     bits: usize,
 }
@@ -242,15 +244,19 @@ fn write_vector(
 }
 
 // The sizes of the lent list's record.
-fn sizes_of(numbers: &[i32]) -> Sizes
-    requires { ⌜ Holds (now numbers) ⌝ }
-    ensures { λ r. ⌜ Sized r (now (numbers .entry)) ⌝ }
+fn sizes_of(layout: Layout, numbers: &[i32]) -> Sizes
+    requires { ⌜ Holds layout (now numbers) ⌝ }
+    ensures { λ r. ⌜ (r .layout ≡ layout) × Sized r (now (numbers .entry)) ⌝ }
 {
     let m = block::count_at(numbers, 0) as usize;
     let q = block::count_at(numbers, 1) as usize;
     let bits = m * q;
     let vector = m * m + 2 * m + bits;
-    Sizes { vector, bits }
+    Sizes {
+        layout,
+        vector,
+        bits,
+    }
 }
 
 // The line of vector k, from 0, whose priors are the last of its numbers.
@@ -263,19 +269,26 @@ fn write_numbered(
     step: Progress,
 ) -> Progress
     requires { ⌜ NumberedAsked sizes (now numbers) (now reply) k step (length (now text)) ⌝ }
-    ensures { λ r. ⌜ Numbered (now (text .entry)) (now (numbers .entry)) (now (reply .entry)) k step (now (text .exit)) r ⌝ }
+    ensures { λ r. ⌜ Numbered (now (text .entry)) (sizes .layout) (now (numbers .entry)) (now (reply .entry)) k step (now (text .exit)) r ⌝ }
 {
-    let end = 5 + (k + 1) * sizes.vector;
+    let layout = sizes.layout;
+    let end = block::header_size(layout) + (k + 1) * sizes.vector;
     let from = end - sizes.bits;
     write_vector(text, reply, &numbers[from..end], k as u32 + 1, step)
 }
 
 // The lines of all vectors, in record order; the place after them, and the nodes of all.
-fn write_vectors(text: &mut [u8], numbers: &[i32], reply: &[u8], at: usize) -> Progress
-    requires { ⌜ VectorsAsked (now numbers) (now reply) at (length (now text)) ⌝ }
-    ensures { λ r. ⌜ VectorsListed (now (text .entry)) (now (numbers .entry)) at (now (text .exit)) r ⌝ }
+fn write_vectors(
+    text: &mut [u8],
+    layout: Layout,
+    numbers: &[i32],
+    reply: &[u8],
+    at: usize,
+) -> Progress
+    requires { ⌜ VectorsAsked layout (now numbers) (now reply) at (length (now text)) ⌝ }
+    ensures { λ r. ⌜ VectorsListed (now (text .entry)) layout (now (numbers .entry)) at (now (text .exit)) r ⌝ }
 {
-    let sizes = sizes_of(numbers);
+    let sizes = sizes_of(layout, numbers);
     let n = block::count_at(numbers, 2) as usize;
     let mut step = Progress {
         at,
@@ -291,17 +304,17 @@ fn write_vectors(text: &mut [u8], numbers: &[i32], reply: &[u8], at: usize) -> P
 }
 
 // The listing of the record that the lent list holds, with its reply; the place after it.
-fn write_block(text: &mut [u8], numbers: &[i32], reply: &[u8]) -> usize
-    requires { ⌜ BlockAsked (now numbers) (now reply) (length (now text)) ⌝ }
-    ensures { λ r. ⌜ (r ≤ mostText) × Wrote (now (text .entry)) 0 (blockText (blockOf (now (numbers .entry)))) (now (text .exit)) r ⌝ }
+fn write_block(text: &mut [u8], layout: Layout, numbers: &[i32], reply: &[u8]) -> usize
+    requires { ⌜ BlockAsked layout (now numbers) (now reply) (length (now text)) ⌝ }
+    ensures { λ r. ⌜ (r ≤ mostText) × Wrote (now (text .entry)) 0 (blockText (blockOf layout (now (numbers .entry)))) (now (text .exit)) r ⌝ }
 {
     let m = block::count_at(numbers, 0);
     let q = block::count_at(numbers, 1);
     let n = block::count_at(numbers, 2);
     let clip = block::count_at(numbers, 3);
-    let share = block::count_at(numbers, 4);
+    let share = block::count_at(numbers, block::share_place(layout));
     let at = write_head(text, m, q, n, clip, share);
-    let listed = write_vectors(text, numbers, reply, at);
+    let listed = write_vectors(text, layout, numbers, reply, at);
     write_last(text, listed.at, b"total ", listed.total)
 }
 
@@ -316,10 +329,15 @@ pub fn list(record: &[u8], text: &mut [u8; MOST_TEXT]) -> usize
         Read::Ended(_) => {
             let mut reply = [0u8; detector::MOST_REPLY];
             let n = detector::geckoneedle_detect(record, &mut reply);
-            write_block(text, &numbers, &reply[..n as usize])
+            write_block(
+                text,
+                block::layout_of(record),
+                &numbers,
+                &reply[..n as usize],
+            )
         }
         Read::Refused(refusal) => {
-            write_last(text, 0, b"refused ", block::refusal_number(refusal))
+            write_last(text, 0, b"refused ", refusals::refusal_number(refusal))
         }
     }
 }

@@ -2,22 +2,21 @@
 -- the least metrics over all labels apply; the allowance leaves each vector M nodes or more.
 use Prim.Native.Nat.{ℕ, zero, suc, _+_, _-_, _*_, _≤_, _<_, min}
 use mathlib.Core.Path.{_≡_, refl, sym, _∙_, ap, ap₂, subst}
-use mathlib.Core.Bool.{Bool, true, false, true≢false}
-use mathlib.Core.Logic.{_↔_, _⊎_, inl, inr}
-use mathlib.Core.List.{List, [], _∷_, _++_, map, List·Nodup, Nodup·of-append-left}
+use mathlib.Core.Bool.{Bool, true, false}
+use mathlib.Core.Logic.{inl, inr}
+use mathlib.Core.List.{List, [], _∷_, map, List·Nodup, Nodup·of-append-left}
 use native.Mathlib.Nat.{mul-le-mul-left}
 use native.Mathlib.Omega.{arith}
-use lib.Dec.{ltb}
 use borrow.Author.Tests.{ltb-true, ltb-false, lt-ltb}
 use lib.ListN.{length, take, drop, getD, length-take, take-append-drop, replicate, length-replicate}
 use lib.Seq.{take-all}
-use lib.IntN.{ℤ, pos}
+use lib.IntN.{pos}
 use Rattle.model.specs.Constellation.{Bits, number, symbols}
 use Rattle.model.specs.Metric.{Row, Vector, metricOf, labelBits, bitAt, priorAt}
-use Rattle.model.specs.Soft.{Least, infinite, finite, leastWith, pick, softValue, softAt, places, Report, report}
+use Rattle.model.specs.Soft.{Least, infinite, finite, leastWith, pick, softValue, softAt, places, report}
 use Rattle.model.specs.Walk.{walk, leaves}
-use Rattle.model.specs.Block.{Block, vectorOf, Answer, walkedNodes, walkedLabels, answer, total, allowance, answersFrom, answers, totalCount, _∈_, Every, Shaped}
-use Rattle.model.specs.Demand.{LeastMetric, SoftValue, Demand2, LeastOver, Demand2Over, WalkedAndCut, Result, ResultsFrom, Demand3}
+use Rattle.model.specs.Block.{Block, vectorOf, Answer, walkedNodes, walkedLabels, isStopped, emptySide, answer, total, allowance, answersFrom, answers, totalCount, _∈_, Every, Shaped}
+use Rattle.model.specs.Demand.{LeastMetric, SoftValue, Demand2, LeastOver, Demand2Over, Result, ResultsFrom, Demand3}
 use Rattle.model.proofs.Lists.{in-symbols, symbols-length, length-upFrom, getD-places}
 use Rattle.model.proofs.Ranks.{order-head}
 use Rattle.model.proofs.Least.{AtMost, Lex, pick-in, pick-least, least-le, least-in, Attained}
@@ -124,38 +123,41 @@ module _ (v : Vector) where
       second l e (inr h) = order-head (h .1)
 
   -- A vector marked complete walked its whole walk
-  complete : (n : ℕ) → answer v n .stopped ≡ false → walkedNodes v n ≡ walk v
-  unfolding answer
+  complete : (n : ℕ) → isStopped v n ≡ false → walkedNodes v n ≡ walk v
   complete n e = take-all n (walk v) (ltb-false n (length (walk v)) e)
 
-  -- A count is the smaller of the allowance and the walk's length
-  pub count-is : (n : ℕ) → answer v n .count ≡ min n (length (walk v))
+  -- and reports over it with C, whatever W is
+  whole-report : (weak n : ℕ) → answer v weak n .stopped ≡ false → answer v weak n .result ≡ report v (v .clip) (leaves v (walk v))
   unfolding answer
-  count-is n = length-take n (walk v)
+  whole-report weak n e = ap₂ (λ (t : Bool) (w : List Bits). report v (emptySide t weak (v .clip)) (leaves v w)) e (complete n e)
+
+  -- A count is the smaller of the allowance and the walk's length
+  pub count-is : (weak n : ℕ) → answer v weak n .count ≡ min n (length (walk v))
+  unfolding answer
+  count-is weak n = length-take n (walk v)
 
 module _ (v : Vector) (q : 0 < v .width) (some-row : 0 < length (v .rows)) where
   -- Demand 2, of a vector marked complete
-  pub demand2 : (n : ℕ) → answer v n .stopped ≡ false → Demand2 v (answer v n .result)
-  unfolding answer
-  demand2 n e =
+  pub demand2 : (weak n : ℕ) → answer v weak n .stopped ≡ false → Demand2 v (answer v weak n .result)
+  demand2 weak n e =
       subst (Demand2 v)
-      (exact v q some-row (all v) (λ l h. in-all v l (leaves-of v (walk v) l h .1)) (whole-label v) ∙ sym (ap (λ (w : List Bits). report v (v .clip) (leaves v w)) (complete v n e)))
+      (exact v q some-row (all v) (λ l h. in-all v l (leaves-of v (walk v) l h .1)) (whole-label v) ∙ sym (whole-report v weak n e))
       (over-all v)
 
-  result : (b : Block) (spent after n : ℕ) → n + (spent + after * b .streams) ≡ total b → length (v .rows) ≡ b .streams → b .streams ≤ n → Result b spent after n v (answer v n)
+  result : (b : Block) (spent after n : ℕ) → n + (spent + after * b .streams) ≡ total b → length (v .rows) ≡ b .streams → b .streams ≤ n → Result b spent after n v (answer v (b .weak) n)
   unfolding answer
   result b spent after n allowed e h = record {
     allowed = allowed;
     stopped = (λ t. ltb-true n (length (walk v)) t, λ k. lt-ltb n (length (walk v)) k);
-    count = omega (arith, count-is v n);
-    least = omega (arith, count-is v n, walk-at-least v q);
-    tally = search-answers v q n;
+    count = omega (arith, count-is v (b .weak) n);
+    least = omega (arith, count-is v (b .weak) n, walk-at-least v q);
+    tally = search-answers v q n (b .weak);
     once = Nodup·of-append-left (drop n (walk v)) (subst List·Nodup (sym (take-append-drop n (walk v))) (walk-once v q));
     some = some-leaf v q some-row n (omega arith);
     walked = refl;
-    over = report-over v (v .clip) (walkedLabels v n) (some-leaf v q some-row n (omega arith));
-    pruned = λ c s x. pruning-exact v q some-row s x ∙ sym (ap (λ (w : List Bits). report v (v .clip) (leaves v w)) (complete v n c));
-    exact = demand2 n;
+    over = report-over v (emptySide (isStopped v n) (b .weak) (v .clip)) (walkedLabels v n) (some-leaf v q some-row n (omega arith));
+    pruned = λ c s x. pruning-exact v q some-row s x ∙ sym (whole-report v (b .weak) n c);
+    exact = demand2 (b .weak) n;
   }
 
 module _ (b : Block) (stream : 1 ≤ b .streams) (bit : 1 ≤ b .width) where
@@ -167,17 +169,18 @@ module _ (b : Block) (stream : 1 ≤ b .streams) (bit : 1 ≤ b .width) where
   results-from (rows ∷ later) shape spent h =
       let n : ℕ = allowance b spent (length later) in
       let e : length rows ≡ b .streams = shape .0 in
-      let c : answer (vectorOf b rows) n .count ≡ min n (length (walk (vectorOf b rows))) = count-is (vectorOf b rows) n in (
+      let a : Answer = answer (vectorOf b rows) (b .weak) n in
+      let c : a .count ≡ min n (length (walk (vectorOf b rows))) = count-is (vectorOf b rows) (b .weak) n in (
         (n, result (vectorOf b rows) bit (omega arith) b spent (length later) n (omega arith) e (omega arith)),
-        results-from later (shape .1) (spent + answer (vectorOf b rows) n .count) (omega arith),
+        results-from later (shape .1) (spent + a .count) (omega arith),
       )
 
   sum-from : (vs : List (List Row)) (spent : ℕ) → spent + length vs * b .streams ≤ total b → spent + totalCount (answersFrom b spent vs) ≤ total b
   unfolding totalCount answersFrom
   sum-from [] spent h = omega arith
   sum-from (rows ∷ later) spent h =
-      let a : Answer = answer (vectorOf b rows) (allowance b spent (length later)) in
-      let c : a .count ≡ min (allowance b spent (length later)) (length (walk (vectorOf b rows))) = count-is (vectorOf b rows) _ in
+      let a : Answer = answer (vectorOf b rows) (b .weak) (allowance b spent (length later)) in
+      let c : a .count ≡ min (allowance b spent (length later)) (length (walk (vectorOf b rows))) = count-is (vectorOf b rows) (b .weak) _ in
       omega (arith, sum-from later (spent + a .count) (omega arith))
 
 -- Demand 3 holds of a block's answers
@@ -191,18 +194,24 @@ demand3 b s = record {
     room = omega (arith, mul-le-mul-left (length (b .vectors)) (s .reserve))
 
 -- What demand 3 finds of a vector is its answer
-result-is : (b : Block) (spent after n : ℕ) (v : Vector) (a : Answer) → Result b spent after n v a → a ≡ answer v n
+result-is : (b : Block) (spent after n : ℕ) (v : Vector) (a : Answer) → Result b spent after n v a → a ≡ answer v (b .weak) n
 unfolding answer
 result-is b spent after n v a r =
-    λ j. record { stopped = mark (ltb n (length (walk v))) refl (a .stopped) refl j; count = same-count j; result = r .walked j }
+    λ j. record { stopped = same-mark j; count = same-count j; result = (r .walked ∙ same-report) j }
   where
     same-count : a .count ≡ length (take n (walk v))
     same-count = omega (arith, r .count, length-take n (walk v))
 
-    mark : (t : Bool) → ltb n (length (walk v)) ≡ t → (x : Bool) → a .stopped ≡ x → a .stopped ≡ ltb n (length (walk v))
+    mark : (t : Bool) → isStopped v n ≡ t → (x : Bool) → a .stopped ≡ x → a .stopped ≡ isStopped v n
     mark true e x f = r .stopped .1 (ltb-true n (length (walk v)) e) ∙ sym e
     mark false e true f = absurd (omega (arith, r .stopped .0 f, ltb-false n (length (walk v)) e))
     mark false e false f = f ∙ sym e
+
+    same-mark : a .stopped ≡ isStopped v n
+    same-mark = mark (isStopped v n) refl (a .stopped) refl
+
+    same-report : report v (emptySide (a .stopped) (b .weak) (v .clip)) (walkedLabels v n) ≡ report v (emptySide (isStopped v n) (b .weak) (v .clip)) (walkedLabels v n)
+    same-report = ap (λ (t : Bool). report v (emptySide t (b .weak) (v .clip)) (walkedLabels v n)) same-mark
 
 results-are : (b : Block) (vs : List (List Row)) (spent : ℕ) (found : List Answer) → ResultsFrom b spent vs found → found ≡ answersFrom b spent vs
 unfolding answersFrom
@@ -217,8 +226,8 @@ results-are b (rows ∷ later) spent (a ∷ rest) r = ap₂ _∷_ first (results
     enough : n ≡ allowance b spent (length later)
     enough = omega (arith, r .0 .1 .allowed)
 
-    first : a ≡ answer (vectorOf b rows) (allowance b spent (length later))
-    first = result-is b spent (length later) n (vectorOf b rows) a (r .0 .1) ∙ ap (answer (vectorOf b rows)) enough
+    first : a ≡ answer (vectorOf b rows) (b .weak) (allowance b spent (length later))
+    first = result-is b spent (length later) n (vectorOf b rows) a (r .0 .1) ∙ ap (answer (vectorOf b rows) (b .weak)) enough
 
 -- Answers that meet demand 3 are the answers
 pub demand3-unique : (b : Block) (found : List Answer) → Demand3 b found → found ≡ answers b

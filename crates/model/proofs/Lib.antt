@@ -12,4 +12,5 @@ pub mod Complete
 pub mod Lead
 pub mod Search
 pub mod Demand
+pub mod Weak
 pub mod Readings

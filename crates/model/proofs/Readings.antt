@@ -26,9 +26,13 @@ a & b = record { re = a; im = b }
 abbrev pub row : ℕ → List Complex → Complex → List ℤ → Row
 row d entries y ps = record { diagonal = d; right = entries; received = y; priors = ps }
 
--- M, Q, C, D and the vectors
+-- M, Q, C, W, D and the vectors
+abbrev pub blockWith : ℕ → ℕ → ℕ → ℕ → ℕ → List (List Row) → Block
+blockWith m q c w d vs = record { streams = m; width = q; clip = c; weak = w; share = d; vectors = vs }
+
+-- M, Q, C, D and the vectors of an older record: it "has W = C" (document 02), as all of document 01's have
 abbrev pub block : ℕ → ℕ → ℕ → ℕ → List (List Row) → Block
-block m q c d vs = record { streams = m; width = q; clip = c; share = d; vectors = vs }
+block m q c d vs = blockWith m q c c d vs
 
 -- Nodes walked, label, soft values
 abbrev pub complete : ℕ → ℕ → List ℤ → Answer
@@ -54,9 +58,13 @@ found r = answers (r .given)
 unfoldable pub stated : Reading → List Answer
 stated r = r .expected
 
--- M = 1, Q = 1, R = 1: y, the prior, C and D
+-- M = 1, Q = 1, R = 1: y and the prior
+abbrev pub lone : ℤ → ℤ → List Row
+lone y prior = row 1 [] (y & pos 0) (prior ∷ []) ∷ []
+
+-- and C and D
 abbrev pub single : ℤ → ℤ → ℕ → ℕ → Block
-single y prior c d = block 1 1 c d ((row 1 [] (y & pos 0) (prior ∷ []) ∷ []) ∷ [])
+single y prior c d = block 1 1 c d (lone y prior ∷ [])
 
 -- M = 2, Q = 1, R rows (1, 1), (0, 1), y = (1, -1), priors 0
 abbrev pub pair : List Row
@@ -88,6 +96,31 @@ listing = block 2 1 10 3 (pair ∷ pair ∷ []) gives (stopped 4 2 (minus 8 ∷ 
 pub listed : found listing ≡ stated listing
 unfolding found stated listing
 listed = refl
+
+-- Document 02, Point 4: W on the empty sides of stopped vectors and nowhere else
+unfoldable pub weakReadings : List Reading
+weakReadings =
+    -- y = 2, prior 10: label 0 is walked, with D = 1 no other; with D = 2 both are, and no side is empty
+    blockWith 1 1 5 2 1 (lone (pos 2) (pos 10) ∷ []) gives (stopped 1 0 (pos 2 ∷ []) ∷ []) ∷
+    blockWith 1 1 5 2 2 (lone (pos 2) (pos 10) ∷ []) gives (complete 2 0 (minus 5 ∷ []) ∷ []) ∷
+    -- y = 2, prior 0: label 0 is cut, and the vector is complete, so that its side gives C
+    blockWith 1 1 5 2 2 (lone (pos 2) (pos 0) ∷ []) gives (complete 1 1 (minus 5 ∷ []) ∷ []) ∷
+    -- The pair, stopped: a value with both sides is clipped by C and may pass W; and complete
+    blockWith 2 1 10 3 4 (pair ∷ []) gives (stopped 4 2 (minus 8 ∷ pos 3 ∷ []) ∷ []) ∷
+    blockWith 2 1 10 7 5 (pair ∷ []) gives (complete 5 2 (minus 4 ∷ pos 4 ∷ []) ∷ []) ∷
+    []
+
+pub weakened : map found weakReadings ≡ map stated weakReadings
+unfolding found stated weakReadings
+weakened = refl
+
+-- The listing's block with W = 0
+unfoldable pub weakListing : Reading
+weakListing = blockWith 2 1 10 0 3 (pair ∷ pair ∷ []) gives (stopped 4 2 (minus 8 ∷ pos 0 ∷ []) ∷ stopped 2 2 (pos 0 ∷ pos 0 ∷ []) ∷ [])
+
+pub weak-listed : found weakListing ≡ stated weakListing
+unfolding found stated weakListing
+weak-listed = refl
 
 -- Document 01's example against 000's eq. 31: "Leaves 10, 12, 8, 6, the bit opposite only in 12, its prior 10 for the best one's bit, C = 3:
 -- that gives -1; the right value is -3". Of the two minima
@@ -215,7 +248,7 @@ computed = refl
 -- The first vector of a block, by the search as a program keeps it
 abbrev pub firstOf : Block → List (List Row) → List Answer
 firstOf b [] = []
-firstOf b (rows ∷ later) = searchAnswer (vectorOf b rows) (search (vectorOf b rows) (allowance b 0 (length later))) ∷ []
+firstOf b (rows ∷ later) = searchAnswer (vectorOf b rows) (b .weak) (search (vectorOf b rows) (allowance b 0 (length later))) ∷ []
 
 unfoldable pub foundFirst : Reading → List Answer
 unfolding number symbols amplitude point dot residual priorCost increment metric allPriors earlier upFrom passes insert sort children start enter searchBelow searchAnswer

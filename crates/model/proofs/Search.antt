@@ -15,7 +15,7 @@ use Rattle.model.specs.Constellation.{Bits, number}
 use Rattle.model.specs.Metric.{Row, Vector, metric, metricOf, labelBits, bitAt, priorAt}
 use Rattle.model.specs.Soft.{Least, infinite, finite, lesser, leastOf, those, hasBit, leastWith, pick, softValue, softAt, places}
 use Rattle.model.specs.Walk.{isLeaf, leaves, limit, isOpen, passes, passesAfter, children, Progress, withWalked, withCut, visit, walkBelow, walk}
-use Rattle.model.specs.Block.{answer}
+use Rattle.model.specs.Block.{isStopped, emptySide, answer}
 use Rattle.model.specs.Search.{Search, start, admits, bestAfter, updated, enter, attempt, searchBelow, search, valueAt, searchAnswer}
 use Rattle.model.proofs.Lists.{map-upFrom, any-upFrom, getD-places, those-snoc}
 use Rattle.model.proofs.Least.{pick-snoc, pick-metric, leastOf-snoc, least-snoc}
@@ -157,13 +157,16 @@ module _ (v : Vector) (q : 0 < v .width) (n : ℕ) where
   unfolding start leastOf pick those
   search-is = below-first (reverse (v .rows)) [] [] (record { walked = []; cut = [] }) (omega arith)
 
-  -- The search's outcome is the answer
-  pub search-answers : searchAnswer v (search v n) ≡ answer v n
+  -- The search's outcome is the answer, whatever W is
+  pub search-answers : (weak : ℕ) → searchAnswer v weak (search v n) ≡ answer v weak n
   unfolding searchAnswer answer
-  search-answers = ap (searchAnswer v) search-is ∙ (λ j. record { stopped = ltb n (length (walk v)); count = length (take n (walk v)); result = record { label = number (pick v ls); soft = values j } })
+  search-answers weak = ap (searchAnswer v weak) search-is ∙ (λ j. record { stopped = isStopped v n; count = length (take n (walk v)); result = record { label = number (pick v ls); soft = values j } })
     where
       ls : List Bits
       ls = leaves v (take n (walk v))
 
-      values : map (valueAt v (first v n (walk v))) (places v) ≡ map (softAt v (v .clip) ls) (places v)
-      values = map-upFrom _ _ 0 (labelBits v) (λ i h. ap₂ (softValue (v .clip) (v .clip) (priorAt v i)) (side-at v true ls i (omega arith)) (side-at v false ls i (omega arith)))
+      empty : ℕ
+      empty = emptySide (isStopped v n) weak (v .clip)
+
+      values : map (valueAt v empty (first v n (walk v))) (places v) ≡ map (softAt v empty ls) (places v)
+      values = map-upFrom _ _ 0 (labelBits v) (λ i h. ap₂ (softValue (v .clip) empty (priorAt v i)) (side-at v true ls i (omega arith)) (side-at v false ls i (omega arith)))

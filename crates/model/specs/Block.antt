@@ -1,7 +1,8 @@
--- Document 01, "Allowance": a block's vectors searched in record order under the shared allowance; and the ranges of "The record".
+-- Document 01, "Allowance": a block's vectors searched in record order under the shared allowance; document 02's W, "a weaker value after a
+-- stop"; and the ranges of "The record".
 use Prim.Native.Nat.{ℕ, _+_, _-_, _*_, _≤_}
 use mathlib.Core.Path.{_≡_}
-use mathlib.Core.Bool.{Bool}
+use mathlib.Core.Bool.{Bool, cond}
 use mathlib.Core.List.{List, [], _∷_, List·Memᴰ}
 use lib.Dec.{ltb}
 use lib.ListN.{length, take}
@@ -11,15 +12,16 @@ use Rattle.model.specs.Metric.{Row, Vector}
 use Rattle.model.specs.Soft.{Report, report}
 use Rattle.model.specs.Walk.{walk, leaves}
 
--- What a block record holds: M, Q, C, D and the rows of each of its N vectors
+-- What a block record holds: M, Q, C, W (what a stopped vector's empty side gives), D and the rows of each of its N vectors
 pub record Block : Type 0 where
   pub streams : ℕ
   pub width : ℕ
   pub clip : ℕ
+  pub weak : ℕ
   pub share : ℕ
   pub vectors : List (List Row)
 
--- One of its vectors, with Q and C
+-- One of its vectors, with Q and C. "The walk still uses C" (document 02): walk, limits and pass test are those of a Vector, which has no W
 abbrev pub vectorOf : Block → List Row → Vector
 vectorOf b rows = record { width = b .width; clip = b .clip; rows = rows }
 
@@ -38,10 +40,23 @@ walkedNodes v n = take n (walk v)
 abbrev pub walkedLabels : Vector → ℕ → List Bits
 walkedLabels v n = leaves v (walkedNodes v n)
 
--- A vector's answer under an allowance of n nodes: "stopped when that many are walked and the walk would take another"; "stopped
--- vectors report over walked leaves", an empty side giving C
-unfoldable pub answer : Vector → ℕ → Answer
-answer v n = record { stopped = ltb n (length (walk v)); count = length (walkedNodes v n); result = report v (v .clip) (walkedLabels v n) }
+-- "It is stopped when that many are walked and the walk would take another; else complete", of an allowance of n nodes
+abbrev pub isStopped : Vector → ℕ → Bool
+isStopped v n = ltb n (length (walk v))
+
+-- What an empty side gives, by the mark, W and C: "in a stopped vector a bit with one empty side gets +W or -W instead of +C or -C"
+-- (document 02)
+abbrev pub emptySide : Bool → ℕ → ℕ → ℕ
+emptySide stopped weak clip = cond stopped weak clip
+
+-- A vector's answer by W and under an allowance of n nodes: "stopped vectors report over walked leaves", "judged by W on empty sides and by
+-- C elsewhere" (document 02)
+unfoldable pub answer : Vector → ℕ → ℕ → Answer
+answer v weak n = record {
+  stopped = isStopped v n;
+  count = length (walkedNodes v n);
+  result = report v (emptySide (isStopped v n) weak (v .clip)) (walkedLabels v n);
+}
 
 -- N × D, the nodes that the block may walk
 abbrev pub total : Block → ℕ
@@ -55,7 +70,8 @@ allowance b spent after = total b - spent - after * b .streams
 -- The answers of vectors in record order, each under what those before it left
 unfoldable pub answersFrom : Block → ℕ → List (List Row) → List Answer
 answersFrom b spent [] = []
-answersFrom b spent (rows ∷ later) = let a = answer (vectorOf b rows) (allowance b spent (length later)) in a ∷ answersFrom b (spent + a .count) later
+answersFrom b spent (rows ∷ later) =
+    let a = answer (vectorOf b rows) (b .weak) (allowance b spent (length later)) in a ∷ answersFrom b (spent + a .count) later
 
 -- The answers of a block: "the first vector finds nothing spent"
 abbrev pub answers : Block → List Answer
@@ -154,6 +170,7 @@ pub record InRange (b : Block) : Type 0 where
   pub vector : 1 ≤ length (b .vectors)
   pub vectors : length (b .vectors) ≤ mostVectors
   pub clip : b .clip ≤ mostClip
+  pub weak : b .weak ≤ b .clip
   pub reserve : b .streams ≤ b .share
   pub share : b .share ≤ mostShare
   pub each : Every (VectorInRange (b .streams) (b .width)) (b .vectors)

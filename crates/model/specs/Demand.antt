@@ -1,4 +1,4 @@
--- The user's demands 2 and 3, in their words.
+-- The user's demands 2 and 3, in their words, with document 02's W.
 use Prim.Native.Nat.{ℕ, _+_, _*_, _≤_, _<_, min}
 use mathlib.Core.Path.{_≡_}
 use mathlib.Core.Bool.{Bool, true, false}
@@ -11,7 +11,7 @@ use Rattle.model.specs.Constellation.{Bits, number}
 use Rattle.model.specs.Metric.{Row, Vector, metricOf, labelBits, bitAt, priorAt}
 use Rattle.model.specs.Soft.{Least, infinite, finite, softValue, Report, report}
 use Rattle.model.specs.Walk.{walk, cutChildren, leaves}
-use Rattle.model.specs.Block.{Block, vectorOf, Answer, walkedNodes, walkedLabels, totalCount, _∈_}
+use Rattle.model.specs.Block.{Block, vectorOf, Answer, emptySide, walkedNodes, walkedLabels, totalCount, _∈_}
 use Rattle.model.specs.Search.{search, searchAnswer}
 
 -- a is "the least metric with that bit" x over all labels: one of them has it, none has less
@@ -90,13 +90,14 @@ pub record Result (b : Block) (spent after n : ℕ) (v : Vector) (a : Answer) : 
   pub count : a .count ≡ min (length (walk v)) n
   pub least : b .streams ≤ a .count
   -- mark, count, label and values are the search's own, the count its "tally .. made node by node"
-  pub tally : searchAnswer v (search v n) ≡ a
+  pub tally : searchAnswer v (b .weak) (search v n) ≡ a
   -- "no node twice"
   pub once : List·Nodup (walkedNodes v n)
-  -- "label and values over the walked labels alone", of which there is one
+  -- "label and values over the walked labels alone", of which there is one; "a stopped vector is from here on judged by W on empty sides
+  -- and by C elsewhere" (document 02)
   pub some : (l : Bits) × (l ∈ walkedLabels v n)
-  pub walked : a .result ≡ report v (v .clip) (walkedLabels v n)
-  pub over : Demand2Over v (v .clip) (walkedLabels v n) (a .result)
+  pub walked : a .result ≡ report v (emptySide (a .stopped) (b .weak) (v .clip)) (walkedLabels v n)
+  pub over : Demand2Over v (emptySide (a .stopped) (b .weak) (v .clip)) (walkedLabels v n) (a .result)
   -- "for every complete vector, over the walked labels and whichever labels of cut subtrees .. the label and every soft value come
   -- out as in the reply"
   pub pruned : a .stopped ≡ false → (s : List Bits) → WalkedAndCut v s → report v (v .clip) s ≡ a .result

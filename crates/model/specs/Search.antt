@@ -1,6 +1,6 @@
 -- The search of one vector as a program keeps it: no list of nodes or leaves, but a count, a mark, the best label, its metric and two
--- least metrics for each bit. Code is proved against this; a reader need not believe it, since `outcome (search ..)` is proved to be
--- the `answer` of document 01 (proofs/Search).
+-- least metrics for each bit. Code is proved against this; a reader need not believe it, since `searchAnswer .. (search ..)` is
+-- proved to be the `answer` of document 01 (proofs/Search).
 use Prim.Native.Nat.{ℕ, suc}
 use mathlib.Core.Bool.{Bool, true, false, cond}
 use mathlib.Core.List.{List, [], _∷_, map, foldl, reverse}
@@ -11,7 +11,7 @@ use Rattle.model.specs.Constellation.{Bits, number}
 use Rattle.model.specs.Metric.{Row, Vector, metric, metricOf, bitAt, priorAt}
 use Rattle.model.specs.Soft.{Least, infinite, finite, lesser, hasBit, better, places, softValue}
 use Rattle.model.specs.Walk.{isLeaf, passes, children}
-use Rattle.model.specs.Block.{Answer}
+use Rattle.model.specs.Block.{Answer, emptySide}
 
 -- Nodes counted, the mark, m, B, and for each bit the least metric with it 0 and with it 1
 pub record Search : Type 0 where
@@ -73,9 +73,14 @@ searchBelow v n (r ∷ todo) done node s = foldl (attempt v n (r ∷ done) (sear
 abbrev pub search : Vector → ℕ → Search
 search v n = searchBelow v n (reverse (v .rows)) [] [] (start v)
 
--- The answer of a finished search
-abbrev pub valueAt : Vector → Search → ℕ → ℤ
-valueAt v s i = softValue (v .clip) (v .clip) (priorAt v i) (getD (s .ones) i infinite) (getD (s .zeros) i infinite)
+-- Bit i's soft value from a finished search; `empty` is what an empty side gives
+abbrev pub valueAt : Vector → ℕ → Search → ℕ → ℤ
+valueAt v empty s i = softValue (v .clip) empty (priorAt v i) (getD (s .ones) i infinite) (getD (s .zeros) i infinite)
 
-unfoldable pub searchAnswer : Vector → Search → Answer
-searchAnswer v s = record { stopped = s .stopped; count = s .count; result = record { label = number (s .best); soft = map (valueAt v s) (places v) } }
+-- The answer of a finished search, by W
+unfoldable pub searchAnswer : Vector → ℕ → Search → Answer
+searchAnswer v weak s = record {
+  stopped = s .stopped;
+  count = s .count;
+  result = record { label = number (s .best); soft = map (valueAt v (emptySide (s .stopped) weak (v .clip)) s) (places v) };
+}

@@ -19,7 +19,7 @@ raised (pos n) f = record { value = n + 2147483648; is = refl; small = omega (ar
 raised (negsuc n) f =
     record { value = 2147483648 - suc n; is = rw (le-ltb 2147483648 (suc n) (omega (arith, f .sfits))); small = omega arith }
 
--- A record has at most 3,077 whole numbers, a vector's priors being p; the parts of that sum
+-- The vectors have at most 3,072 whole numbers, a vector's priors being p; the parts of that sum
 pub record Sums (m n p : ℕ) : Type 0 where
   pub square : m * m ≤ 16
   pub vectors : n * (m * m + 2 * m + p) ≤ 3072

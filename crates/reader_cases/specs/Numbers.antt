@@ -1,6 +1,8 @@
 -- What is said of an accepted record: how many whole numbers it has, and their checksum.
 use Prim.Native.Nat.{ℕ, zero, suc, _+_, _*_, _%_, min}
+use mathlib.Core.Bool.{cond}
 use mathlib.Core.List.{List}
+use lib.Dec.{eqb}
 use lib.IntN.{ℤ, pos, natAbs, _+ℤ_}
 use lib.ListN.{getD}
 
@@ -12,9 +14,13 @@ sizeAt numbers i most = min (natAbs (getD numbers i (pos 0))) most
 abbrev pub vectorCount : ℕ → ℕ → ℕ
 vectorCount m q = m * m + 2 * m + min (m * q) 24
 
--- How many a record has: M, Q, N, C and D, and those of N vectors
-abbrev pub countOf : List ℤ → ℕ
-countOf numbers = 5 + sizeAt numbers 2 64 * vectorCount (sizeAt numbers 0 4) (sizeAt numbers 1 8)
+-- How many stand before the first: M, Q, N, C and D, and W where the opening ends in 32
+abbrev pub headerCount : List ℕ → ℕ
+headerCount bytes = cond (eqb (getD bytes 3 0) 0x32) 6 5
+
+-- How many a record has: these, and those of N vectors
+abbrev pub countOf : ℕ → List ℤ → ℕ
+countOf header numbers = header + sizeAt numbers 2 64 * vectorCount (sizeAt numbers 0 4) (sizeAt numbers 1 8)
 
 -- A number moved up by 2 to the 31
 abbrev pub moved : ℤ → ℕ

@@ -11,7 +11,7 @@ ghost use Prim.Native.Nat.{_<_, _≤_, min};
 ghost use lib.IntN.{natAbs};
 ghost use lib.ListN.{length};
 ghost use Rattle.block.specs.Reading.{mostNumbers};
-ghost use Rattle.reader_cases.specs.Numbers.{countOf, moved, mixed, checksumOf};
+ghost use Rattle.reader_cases.specs.Numbers.{headerCount, countOf, moved, mixed, checksumOf};
 
 fn smaller(a: usize, b: usize) -> usize
     ensures { λ r. ⌜ r ≡ min a b ⌝ }
@@ -27,15 +27,29 @@ fn size(z: i32, most: usize) -> usize
     smaller(integers::magnitude(z as i64) as usize, most)
 }
 
-// How many whole numbers a record has, by its M, Q and N. A vector's priors are at most 24: Q = 8 is with up to three streams.
-fn count(numbers: &[i32; MOST_NUMBERS]) -> usize
-    ensures { λ r. ⌜ (r ≡ countOf (now (numbers .entry))) × (r ≤ mostNumbers) ⌝ }
+// How many whole numbers stand before the first vector: one more, W, with the opening that ends in 32.
+fn header(record: &[u8]) -> usize
+    ensures { λ r. ⌜ (r ≡ headerCount (now («record» .entry))) × (r ≤ 6) ⌝ }
+{
+    if record.len() < 4 {
+        return 5;
+    }
+    if record[3] == 0x32 {
+        return 6;
+    }
+    5
+}
+
+// How many whole numbers a record has, by these and its M, Q and N. A vector's priors are at most 24: Q = 8 is with up to three streams.
+fn count(header: usize, numbers: &[i32; MOST_NUMBERS]) -> usize
+    requires { ⌜ header ≤ 6 ⌝ }
+    ensures { λ r. ⌜ (r ≡ countOf header (now (numbers .entry))) × (r ≤ mostNumbers) ⌝ }
 {
     let m = size(numbers[0], 4);
     let q = size(numbers[1], 8);
     let n = size(numbers[2], 64);
     let priors = smaller(m * q, 24);
-    5 + n * (m * m + 2 * m + priors)
+    header + n * (m * m + 2 * m + priors)
 }
 
 // A whole number moved up by 2 to the 31, so that it is not negative.
@@ -89,10 +103,10 @@ fn run(record: &[u8], numbers: &mut [i32; MOST_NUMBERS])
 {
     match block::read_whole(record, numbers) {
         Read::Ended(_) => {
-            let n = count(numbers);
+            let n = count(header(record), numbers);
             print_accepted(n, checksum(numbers, n));
         }
-        Read::Refused(refusal) => print_refused(block::refusal_number(refusal)),
+        Read::Refused(refusal) => print_refused(refusals::refusal_number(refusal)),
     }
 }
 

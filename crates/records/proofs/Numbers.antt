@@ -1,18 +1,20 @@
 -- One number: in its range it fits four groups, and what its groups are read as is the number again.
 use Prim.Native.Nat.{ℕ, _*_, _^_, _≤_, _<_}
 use mathlib.Core.Path.{_≡_, sym}
-use mathlib.Core.Bool.{true, true≢false}
+use mathlib.Core.Bool.{true, false, true≢false}
 use native.Mathlib.Omega.{arith}
 use lib.IntN.{ℤ, pos, negsuc, negℤ, natAbs}
 use lib.Signed.{leZ}
+use borrow.Author.Tests.{leb-true}
 use Rattle.model.specs.Block.{mostStreams, mostVectors, mostClip, mostShare, mostEntry, mostReceived, mostPrior}
 use Rattle.wire.specs.Folding.{folded}
 use Rattle.wire.proofs.RoundTrip.{unfolded-folded}
-use Rattle.block.specs.Table.{between, allowed}
+use Rattle.refusals.specs.Table.{between, allowed}
 use Rattle.block.specs.Reading.{wholeOf}
-use Rattle.block.specs.declared.Kind.{Kind}
-use Rattle.block.specs.declared.Kind.the-variants.{StreamCount, SymbolWidth, VectorCount, ClipLevel, NodeShare}
-use Rattle.block.specs.declared.Kind.the-variants.{DiagonalEntry, RightPart, ReceivedPart, BitPrior}
+use Rattle.refusals.specs.declared.Kind.{Kind}
+use Rattle.refusals.specs.declared.Kind.the-variants.{StreamCount, SymbolWidth, VectorCount, ClipLevel, WeakLevel, NodeShare}
+use Rattle.refusals.specs.declared.Kind.the-variants.{DiagonalEntry, RightPart, ReceivedPart, BitPrior}
+use Rattle.refusals.proofs.Tests.{and-right}
 use Rattle.block.proofs.Ranges.{between-plain, between-signed, allowed-width}
 use Rattle.block.proofs.Parts.{plain-most, width-most}
 use Rattle.block.proofs.CalledFor.{Grounded}
@@ -40,6 +42,15 @@ folded-most (negsuc n) = omega arith
 folded-small : (b : ℕ) (z : ℤ) → 2 * b < 2 ^ 28 → between (negℤ (pos b)) (pos b) z ≡ true → folded z < 2 ^ 28
 folded-small b z most e = omega (arith, folded-most z, between-signed b z e)
 
+-- A range from 0 to a number within a bound
+to-plain : (c z : ℤ) (b : ℕ) → leZ c (pos b) ≡ true → between (pos 0) c z ≡ true → (natAbs z ≤ b) × (pos (natAbs z) ≡ z)
+to-plain (pos a) z b g e = let p = between-plain 0 a z e in (omega (arith, plain-most p, leb-true a b g), rw (p .is))
+to-plain (negsuc a) z b g e = absurd (no z e)
+  where
+    no : (z : ℤ) → between (pos 0) (negsuc a) z ≡ true → ⊥
+    no (pos n) f = true≢false (sym (and-right (leZ (pos 0) (pos n)) false f))
+    no (negsuc n) f = true≢false (sym f)
+
 -- A range that begins at a number none below 0
 from-plain : (m z : ℤ) (b : ℕ) → leZ (pos 0) m ≡ true → between m (pos b) z ≡ true → (natAbs z ≤ b) × (pos (natAbs z) ≡ z)
 from-plain (pos a) z b g e = let p = between-plain a b z e in (plain-most p, rw (p .is))
@@ -51,6 +62,7 @@ written (SymbolWidth m) z g e =
     let w = allowed-width m z e in record { small = omega (arith, width-most w); back = rw (w .is) }
 written VectorCount z g e = record { small = plain-small 1 mostVectors z (omega arith) e; back = plain-back 1 mostVectors z (omega arith) e }
 written ClipLevel z g e = record { small = plain-small 0 mostClip z (omega arith) e; back = plain-back 0 mostClip z (omega arith) e }
+written (WeakLevel c) z g e = let p = to-plain c z mostClip g e in record { small = omega arith; back = p .1 }
 written (NodeShare m) z g e = let p = from-plain m z mostShare g e in record { small = omega arith; back = p .1 }
 written DiagonalEntry z g e = record { small = plain-small 1 mostEntry z (omega arith) e; back = plain-back 1 mostEntry z (omega arith) e }
 written RightPart z g e = record { small = folded-small mostEntry z (omega arith) e; back = unfolded-folded z }

@@ -9,11 +9,12 @@ use lib.Seq.{sets, sets-eq, drop-cons, getD-take, length-take-le}
 use lib.IntN.{ℤ, pos}
 use Rattle.model.specs.Block.{mostVectors}
 use Rattle.model.proofs.Bounds.{width-small}
-use Rattle.block.specs.Reading.{countAt, readWhole, Got, got, into, mostNumbers}
+use Rattle.block.specs.Reading.{countAt, layoutOf, readWhole, Got, got, into, mostNumbers}
 use Rattle.block.specs.Contents.{blockOf}
-use Rattle.block.specs.Filling.{refused, fitted}
+use Rattle.refusals.specs.Filling.{refused, fitted}
 use Rattle.block.specs.declared.Read.the-variants.{Ended, Refused}
-use Rattle.block.specs.declared.Refusal.{Refusal}
+use Rattle.refusals.specs.declared.Refusal.{Refusal}
+use Rattle.block.proofs.Parts.{weak-few}
 use Rattle.block.proofs.Places.{vectors-count}
 use Rattle.block.proofs.Lent.{lent-room, lent-in-range, lent-numbers}
 use Rattle.records.specs.Writing.{reading}
@@ -39,20 +40,20 @@ sets-start l zs h =
 module _ (bytes : List ℕ) (room : ℕ) (list list′ : List ℤ) where
   -- Read to its end
   module _ (at : ℕ) (size : length list ≡ mostNumbers) (e : got (Ended at) list′ ≡ into 0 (readWhole bytes) list) where
-    pub lent-sized : Sized list′
+    pub lent-sized : Sized (layoutOf bytes) list′
     unfolding blockOf
     lent-sized =
         let r = lent-in-range bytes at list list′ size e in
         record {
-          header = omega (arith, lent-room bytes at list list′ size e);
+          header = omega (arith, lent-room bytes at list list′ size e, weak-few (layoutOf bytes));
           stream = r .stream;
           streams = r .streams;
           width = width-small (countAt 1 list′) (r .width);
           label = r .label;
-          vectors = subst (λ (n : ℕ). n ≤ mostVectors) (vectors-count list′) (r .vectors);
+          vectors = subst (λ (n : ℕ). n ≤ mostVectors) (vectors-count (layoutOf bytes) list′) (r .vectors);
         }
 
-    pub read-ended : reading bytes room ≡ fitted room (take (numberCount list′) list′)
+    pub read-ended : reading bytes room ≡ fitted room (take (numberCount (layoutOf bytes) list′) list′)
     unfolding reading
     read-ended = rw (← ap (λ (g : Got). g .read) e) (ap (fitted room) (sym (lent-numbers bytes at list list′ size e)))
 

@@ -7,15 +7,14 @@ use lib.IntN.{ℤ, pos, negsuc}
 use Rattle.wire.specs.Reading.{numberAt, groups, aboveDigits, lastGroup}
 use Rattle.wire.specs.Writing.{groupsOf, bytesOf}
 use Rattle.wire.specs.Folding.{folded, unfolded}
-use Rattle.block.specs.Reading.{byNumber, numbersAt, kindsOf, runsOf, matrixRuns, vectorsAt, sizedAt, recordAt, startsWith}
+use Rattle.block.specs.Reading.{byNumber, numbersAt, kindsOf, runsOf, matrixRuns, vectorKinds, startsWith, layoutOf, stagesAt}
 use Rattle.block.specs.Reading.{readRecord, readWhole}
-use Rattle.block.specs.Contents.{vectorKinds}
-use Rattle.block.specs.Conditions.{calledFor}
-use Rattle.block.specs.Filling.{Filling, refused, filled, fitted}
-use Rattle.block.specs.declared.Refusal.the-variants.{Ends, Streams, Width, Vectors, Clip, Share, Diagonal}
-use Rattle.block.specs.declared.Refusal.the-variants.{Entry, Received, Prior, Trailing, Buffer, Crowded}
-use Rattle.block.proofs.Readings.{listingRecord}
-use Rattle.records.specs.Writing.{checked, bytesFor, recordOf, writing, reading}
+use Rattle.block.specs.Conditions.{calledBy}
+use Rattle.refusals.specs.Filling.{Filling, refused, filled, fitted}
+use Rattle.refusals.specs.declared.Refusal.the-variants.{Opening, Ends, Malformed, Streams, Width, Vectors, Clip, Share, Diagonal}
+use Rattle.refusals.specs.declared.Refusal.the-variants.{Entry, Received, Prior, Trailing, Buffer, Crowded, Weak}
+use Rattle.block.proofs.Readings.{listingRecord, weakenedRecord}
+use Rattle.records.specs.Writing.{checked, bytesFor, recordOf, writingIn, toldBy, writing, reading}
 
 -- "That vector twice, C = 10, D = 3": R rows (1, 1), (0, 1), y = (1, -1), priors 0
 abbrev vector : List ℤ
@@ -28,16 +27,33 @@ listing = pos 2 ∷ pos 1 ∷ pos 2 ∷ pos 10 ∷ pos 3 ∷ vector ++ vector
 abbrev one : List ℤ
 one = pos 1 ∷ pos 1 ∷ pos 1 ∷ pos 5 ∷ pos 2 ∷ pos 1 ∷ pos 2 ∷ pos 0 ∷ []
 
--- A list or a record, the entries that are lent, and what the call comes to
-pub record Case (A B : Type 0) : Type 0 where
-  pub given : List A
+-- The pair's vector once, with C = 10, W = 7 and D = 4
+abbrev weakened : List ℤ
+weakened = pos 2 ∷ pos 1 ∷ pos 1 ∷ pos 10 ∷ pos 7 ∷ pos 4 ∷ vector
+
+-- The number that tells the opening, a list, the bytes that are lent, and what the call comes to
+pub record Writing : Type 0 where
+  pub told : ℕ
+  pub given : List ℤ
   pub room : ℕ
-  pub comes : Filling B
+  pub comes : Filling ℕ
 
-abbrev case : {A B : Type 0} → List A → ℕ → Filling B → Case A B
-case given room comes = record { given = given; room = room; comes = comes }
+abbrev tell : ℕ → List ℤ → ℕ → Filling ℕ → Writing
+tell told given room comes = record { told = told; given = given; room = room; comes = comes }
 
-unfoldable pub lists : List (Case ℤ ℕ)
+abbrev case : List ℤ → ℕ → Filling ℕ → Writing
+case given room comes = tell 1 given room comes
+
+-- A record, the places that are lent, and what the call comes to
+pub record Reading : Type 0 where
+  pub given : List ℕ
+  pub room : ℕ
+  pub comes : Filling ℤ
+
+abbrev read : List ℕ → ℕ → Filling ℤ → Reading
+read given room comes = record { given = given; room = room; comes = comes }
+
+unfoldable pub lists : List Writing
 lists =
     case listing 29 (filled listingRecord)
     ∷ case listing 28 (refused Buffer)
@@ -58,18 +74,35 @@ lists =
     ∷ case (one ++ negsuc 64 ∷ []) 13 (refused Buffer)
     ∷ case (one ++ negsuc 64 ∷ []) 14
     (filled (0x43 ∷ 0x42 ∷ 0x52 ∷ 0x31 ∷ 0x01 ∷ 0x01 ∷ 0x01 ∷ 0x05 ∷ 0x02 ∷ 0x01 ∷ 0x04 ∷ 0x00 ∷ 0x81 ∷ 0x01 ∷ []))
+    -- document 02's opening: W behind C, 16 after 7 and before D is there
+    ∷ tell 2 weakened 20 (filled weakenedRecord)
+    ∷ tell 1 weakened 20 (refused Diagonal)
+    ∷ tell 2 listing 29 (refused Share)
+    ∷ tell 2 (pos 1 ∷ pos 1 ∷ pos 1 ∷ pos 5 ∷ []) 0 (refused Ends)
+    ∷ tell 2 (pos 1 ∷ pos 1 ∷ pos 1 ∷ pos 5 ∷ pos 6 ∷ []) 0 (refused Weak)
+    ∷ tell 2 (pos 1 ∷ pos 1 ∷ pos 1 ∷ pos 5 ∷ negsuc 0 ∷ pos 0 ∷ []) 0 (refused Weak)
+    ∷ tell 2 (pos 1 ∷ pos 1 ∷ pos 1 ∷ pos 0 ∷ pos 0 ∷ pos 0 ∷ []) 0 (refused Share)
+    ∷ tell 2 (pos 1 ∷ pos 1 ∷ pos 1 ∷ pos 16777216 ∷ pos 16777217 ∷ []) 0 (refused Clip)
+    -- an unknown one, whatever the list and the buffer are
+    ∷ tell 0 listing 29 (refused Opening)
+    ∷ tell 3 [] 0 (refused Opening)
+    ∷ tell 4294967295 (pos 5 ∷ []) 0 (refused Opening)
     ∷ []
 
-unfoldable pub records : List (Case ℕ ℤ)
+unfoldable pub records : List Reading
 records =
-    case listingRecord 25 (filled listing)
-    ∷ case listingRecord 24 (refused Buffer)
-    ∷ case (listingRecord ++ 0x00 ∷ []) 24 (refused Trailing)
-    ∷ case (0x43 ∷ 0x42 ∷ 0x52 ∷ 0x31 ∷ 0x04 ∷ 0x08 ∷ []) 0 (refused Crowded)
+    read listingRecord 25 (filled listing)
+    ∷ read listingRecord 24 (refused Buffer)
+    ∷ read (listingRecord ++ 0x00 ∷ []) 24 (refused Trailing)
+    ∷ read (0x43 ∷ 0x42 ∷ 0x52 ∷ 0x31 ∷ 0x04 ∷ 0x08 ∷ []) 0 (refused Crowded)
+    ∷ read weakenedRecord 16 (filled weakened)
+    ∷ read (0x43 ∷ 0x42 ∷ 0x52 ∷ 0x33 ∷ 0x04 ∷ 0x08 ∷ []) 0 (refused Opening)
+    -- a last group of 0 behind another, before W's range
+    ∷ read (0x43 ∷ 0x42 ∷ 0x52 ∷ 0x32 ∷ 0x01 ∷ 0x01 ∷ 0x01 ∷ 0x05 ∷ 0x85 ∷ 0x00 ∷ []) 0 (refused Malformed)
     ∷ []
 
-pub all-readings : (map (λ c. writing (c .given) (c .room)) lists ≡ map (λ c. c .comes) lists)
+pub all-readings : (map (λ c. writing (c .told) (c .given) (c .room)) lists ≡ map (λ c. c .comes) lists)
     × (map (λ c. reading (c .given) (c .room)) records ≡ map (λ c. c .comes) records)
-unfolding lists records writing checked bytesFor recordOf calledFor vectorKinds kindsOf runsOf matrixRuns folded bytesOf groupsOf fitted reading
-    readWhole readRecord recordAt sizedAt vectorsAt numbersAt byNumber numberAt groups aboveDigits lastGroup unfolded startsWith
+unfolding lists records writing checked bytesFor recordOf writingIn toldBy calledBy vectorKinds kindsOf runsOf matrixRuns folded bytesOf groupsOf fitted reading
+    readWhole readRecord layoutOf stagesAt numbersAt byNumber numberAt groups aboveDigits lastGroup unfolded startsWith
 all-readings = (refl, refl)

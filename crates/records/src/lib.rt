@@ -1,35 +1,45 @@
-// Block records and their whole numbers, both ways (document 02, Point 2): the writer and the reader, exported for C.
-use block::Kind;
+// Block records and their whole numbers, both ways (document 02, Points 2 and 4): the writer and the reader, exported for C.
+use block::Layout;
 use block::Read;
-use block::Refusal;
+use refusals::Kind;
+use refusals::Refusal;
 ghost use mathlib.Core.Path.{_≡_};
 ghost use Prim.Native.Nat.{_*_, _%_, _<_, _≤_};
+ghost use lib.IntN.{pos};
 ghost use lib.ListN.{length, getD, take};
 ghost use lib.Seq.{sets};
 ghost use Rattle.model.specs.Block.{mostStreams, mostWidth, mostBits};
 ghost use Rattle.wire.specs.Writing.{put};
-ghost use Rattle.block.specs.Reading.{kindsOf, matrixRuns, mostNumbers, vectorSize};
-ghost use Rattle.block.specs.Contents.{headerKinds, kindsOfVector};
+ghost use Rattle.block.specs.Reading.{headerSize, kindsOf, matrixRuns, mostNumbers, kindsOfVector, vectorSize};
+ghost use Rattle.block.specs.Contents.{headerKinds};
 ghost use Rattle.block.specs.Conditions.{calledFor};
-ghost use Rattle.block.specs.declared.Kind.the-variants.{StreamCount};
-ghost use Rattle.block.specs.Filling.{call, filling, fitted};
-ghost use Rattle.records.specs.Writing.{checked, plainOf, recordOf, writing, reading};
+ghost use Rattle.refusals.specs.declared.Kind.the-variants.{StreamCount};
+ghost use Rattle.refusals.specs.Filling.{call, filling, fitted};
+ghost use Rattle.records.specs.Writing.{checked, plainOf, recordOf, writingIn, toldBy, writing, reading};
 ghost use Rattle.records.specs.Steps.{kindAt, Asked, FirstAllowed, Called, Sized, numberCount, asRead, WriteAsked};
 
-// How many numbers stand before the first vector: M, Q, N, C and D.
-const HEADER: usize = 5;
+// The layout that the writer is told by a number, or none.
+enum Told {
+    Known(Layout),
+    Unknown,
+}
 
-// The kind of the i-th of these.
-fn header_kind(m: i32, i: usize) -> Kind
-    requires { ⌜ i < 5 ⌝ }
-    ensures { λ r. ⌜ r ≡ getD (headerKinds m) i StreamCount ⌝ }
+// The kind of the i-th number before the first vector.
+fn header_kind(layout: Layout, numbers: &[i32], i: usize) -> Kind
+    requires { ⌜ (i < headerSize layout) × (i < length (now numbers)) ⌝ }
+    ensures { λ r. ⌜ r ≡ getD (headerKinds layout (getD (now (numbers .entry)) 0 (pos 0)) (getD (now (numbers .entry)) 3 (pos 0))) i StreamCount ⌝ }
 {
     match i {
         0 => Kind::StreamCount,
-        1 => Kind::SymbolWidth(m),
+        1 => Kind::SymbolWidth(numbers[0]),
         2 => Kind::VectorCount,
         3 => Kind::ClipLevel,
-        _ => Kind::NodeShare(m),
+        _ => {
+            if i < block::share_place(layout) {
+                return Kind::WeakLevel(numbers[3]);
+            }
+            Kind::NodeShare(numbers[0])
+        }
     }
 }
 
@@ -67,69 +77,71 @@ fn vector_kind(m: usize, q: usize, i: usize) -> Kind
 }
 
 // The kind that a list calls for at a place, once the numbers before it are in their ranges.
-fn kind_at(numbers: &[i32], i: usize) -> Kind
-    requires { ⌜ Asked (now numbers) i ⌝ }
-    ensures { λ r. ⌜ r ≡ kindAt (now (numbers .entry)) i ⌝ }
+fn kind_at(layout: Layout, numbers: &[i32], i: usize) -> Kind
+    requires { ⌜ Asked layout (now numbers) i ⌝ }
+    ensures { λ r. ⌜ r ≡ kindAt layout (now (numbers .entry)) i ⌝ }
 {
-    if i < HEADER {
-        return header_kind(numbers[0], i);
+    let header = block::header_size(layout);
+    if i < header {
+        return header_kind(layout, numbers, i);
     }
     let m = block::count_at(numbers, 0) as usize;
     let q = block::count_at(numbers, 1) as usize;
-    vector_kind(m, q, i - HEADER)
+    vector_kind(m, q, i - header)
 }
 
 // How many numbers a record has, by the M, Q and N in front of a list.
-fn number_count(numbers: &[i32]) -> usize
-    requires { ⌜ Sized (now numbers) ⌝ }
-    ensures { λ r. ⌜ r ≡ numberCount (now (numbers .entry)) ⌝ }
+fn number_count(layout: Layout, numbers: &[i32]) -> usize
+    requires { ⌜ Sized layout (now numbers) ⌝ }
+    ensures { λ r. ⌜ r ≡ numberCount layout (now (numbers .entry)) ⌝ }
 {
     let m = block::count_at(numbers, 0) as usize;
     let q = block::count_at(numbers, 1) as usize;
     let n = block::count_at(numbers, 2) as usize;
-    HEADER + n * block::vector_size(m, q)
+    block::header_size(layout) + n * block::vector_size(m, q)
 }
 
 // How many numbers a list calls for, as far as its first i tell, all of which are in their ranges.
-fn called(numbers: &[i32], i: usize) -> usize
-    requires { ⌜ (1 ≤ i) × (i ≤ length (now numbers)) × FirstAllowed (now numbers) i ⌝ }
-    ensures { λ r. ⌜ Called (now (numbers .entry)) i r ⌝ }
+fn called(layout: Layout, numbers: &[i32], i: usize) -> usize
+    requires { ⌜ (i ≤ length (now numbers)) × FirstAllowed layout (now numbers) i ⌝ }
+    ensures { λ r. ⌜ Called layout (now (numbers .entry)) i r ⌝ }
 {
-    if i < HEADER {
-        return HEADER;
+    let header = block::header_size(layout);
+    if i < header {
+        return header;
     }
-    number_count(numbers)
+    number_count(layout, numbers)
 }
 
 // The plain number that a whole number is written as: folded where its kind is.
 fn plain(kind: Kind, z: i32) -> u32
     ensures { λ r. ⌜ r ≡ plainOf kind z ⌝ }
 {
-    if block::is_folded(kind) {
+    if refusals::is_folded(kind) {
         return wire::fold(z);
     }
     block::count_of(z) as u32
 }
 
 // Where the record of a list ends, or why the list is turned back.
-fn check(numbers: &[i32]) -> Read
-    ensures { λ r. ⌜ r ≡ asRead (length (recordOf (now (numbers .entry)))) (checked (calledFor (now (numbers .entry))) (now (numbers .entry))) ⌝ }
+fn check(layout: Layout, numbers: &[i32]) -> Read
+    ensures { λ r. ⌜ r ≡ asRead (length (recordOf layout (now (numbers .entry)))) (checked (calledFor layout (now (numbers .entry))) (now (numbers .entry))) ⌝ }
 {
     let mut size = 4;
-    let mut end = HEADER;
+    let mut end = called(layout, numbers, 0);
     let mut i = 0;
     while i < end {
         if numbers.len() <= i {
             return Read::Refused(Refusal::Ends);
         }
-        let kind = kind_at(numbers, i);
+        let kind = kind_at(layout, numbers, i);
         let z = numbers[i];
-        if !block::allowed(kind, z) {
-            return Read::Refused(block::refusal_of(kind, z));
+        if !refusals::allowed(kind, z) {
+            return Read::Refused(refusals::refusal_of(kind, z));
         }
         size += wire::group_count(plain(kind, z));
         i += 1;
-        end = called(numbers, i);
+        end = called(layout, numbers, i);
     }
     if i < numbers.len() {
         return Read::Refused(Refusal::Trailing);
@@ -138,35 +150,60 @@ fn check(numbers: &[i32]) -> Read
 }
 
 // The record of a list that passed its check, put into the buffer.
-fn write_all(numbers: &[i32], record: &mut [u8])
-    requires { ⌜ WriteAsked (now numbers) (length (now «record»)) ⌝ }
-    ensures { λ _. ⌜ now («record» .exit) ≡ put (now («record» .entry)) 0 (recordOf (now (numbers .entry))) ⌝ }
+fn write_all(layout: Layout, numbers: &[i32], record: &mut [u8])
+    requires { ⌜ WriteAsked layout (now numbers) (length (now «record»)) ⌝ }
+    ensures { λ _. ⌜ now («record» .exit) ≡ put (now («record» .entry)) 0 (recordOf layout (now (numbers .entry))) ⌝ }
 {
-    wire::write_opening(record, block::OPENING);
+    wire::write_opening(record, block::opening(layout));
     let count = numbers.len();
     let mut at = 4;
     let mut i = 0;
     while i < count {
-        at = wire::write_number(record, at, plain(kind_at(numbers, i), numbers[i]));
+        at = wire::write_number(record, at, plain(kind_at(layout, numbers, i), numbers[i]));
         i += 1;
     }
 }
 
-// A list's whole numbers in, record bytes out: how many, or minus the refusal number over an untouched buffer.
-#[no_mangle]
-pub extern "C" fn geckoneedle_write(numbers: &[i32], record: &mut [u8]) -> i64
+// A list written in a layout: how many bytes, or minus the refusal number over an untouched buffer.
+fn write_in(layout: Layout, numbers: &[i32], record: &mut [u8]) -> i64
     ensures { λ r. ⌜ call r (now («record» .exit))
-        ≡ filling (writing (now (numbers .entry)) (length (now («record» .entry)))) (now («record» .entry)) ⌝ }
+        ≡ filling (writingIn layout (now (numbers .entry)) (length (now («record» .entry)))) (now («record» .entry)) ⌝ }
 {
-    match check(numbers) {
+    match check(layout, numbers) {
         Read::Ended(size) => {
             if record.len() < size {
-                return block::refused(Refusal::Buffer);
+                return refusals::refused(Refusal::Buffer);
             }
-            write_all(numbers, record);
+            write_all(layout, numbers, record);
             size as i64
         }
-        Read::Refused(refusal) => block::refused(refusal),
+        Read::Refused(refusal) => refusals::refused(refusal),
+    }
+}
+
+// The layout that a number tells.
+fn told_by(opening: u32) -> Told
+    ensures { λ r. ⌜ r ≡ toldBy opening ⌝ }
+{
+    if opening == 1 {
+        return Told::Known(Layout::Base);
+    }
+    if opening == 2 {
+        return Told::Known(Layout::Weakened);
+    }
+    Told::Unknown
+}
+
+// A list's whole numbers in, and the opening told by its number; record bytes out: how many, or minus the refusal number over an untouched
+// buffer.
+#[no_mangle]
+pub extern "C" fn geckoneedle_write(opening: u32, numbers: &[i32], record: &mut [u8]) -> i64
+    ensures { λ r. ⌜ call r (now («record» .exit))
+        ≡ filling (writing opening (now (numbers .entry)) (length (now («record» .entry)))) (now («record» .entry)) ⌝ }
+{
+    match told_by(opening) {
+        Told::Known(layout) => write_in(layout, numbers, record),
+        Told::Unknown => refusals::refused(Refusal::Opening),
     }
 }
 
@@ -183,14 +220,14 @@ fn copy(list: &[i32; block::MOST_NUMBERS], count: usize, numbers: &mut [i32])
 }
 
 // The numbers of the record that a list holds, handed over if they fit.
-fn hand_over(list: &[i32; block::MOST_NUMBERS], numbers: &mut [i32]) -> i64
-    requires { ⌜ Sized (now list) × (length (now list) ≡ mostNumbers) ⌝ }
+fn hand_over(layout: Layout, list: &[i32; block::MOST_NUMBERS], numbers: &mut [i32]) -> i64
+    requires { ⌜ Sized layout (now list) × (length (now list) ≡ mostNumbers) ⌝ }
     ensures { λ r. ⌜ call r (now (numbers .exit))
-        ≡ filling (fitted (length (now (numbers .entry))) (take (numberCount (now (list .entry))) (now (list .entry)))) (now (numbers .entry)) ⌝ }
+        ≡ filling (fitted (length (now (numbers .entry))) (take (numberCount layout (now (list .entry))) (now (list .entry)))) (now (numbers .entry)) ⌝ }
 {
-    let count = number_count(list);
+    let count = number_count(layout, list);
     if numbers.len() < count {
-        return block::refused(Refusal::Buffer);
+        return refusals::refused(Refusal::Buffer);
     }
     copy(list, count, numbers);
     count as i64
@@ -204,7 +241,7 @@ pub extern "C" fn geckoneedle_read(record: &[u8], numbers: &mut [i32]) -> i64
 {
     let mut list = [0i32; block::MOST_NUMBERS];
     match block::read_whole(record, &mut list) {
-        Read::Ended(_) => hand_over(&list, numbers),
-        Read::Refused(refusal) => block::refused(refusal),
+        Read::Ended(_) => hand_over(block::layout_of(record), &list, numbers),
+        Read::Refused(refusal) => refusals::refused(refusal),
     }
 }

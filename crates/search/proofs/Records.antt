@@ -9,7 +9,8 @@ use lib.ListN.{length, take, drop}
 use lib.IntN.{ℤ}
 use Rattle.model.specs.Block.{InRange, mostStreams, mostBits}
 use Rattle.model.proofs.Bounds.{width-small, width-positive}
-use Rattle.block.specs.Reading.{vectorSize, countAt, readWhole, got, into, mostNumbers}
+use Rattle.block.specs.declared.Layout.{Layout}
+use Rattle.block.specs.Reading.{headerSize, vectorSize, countAt, layoutOf, readWhole, got, into, mostNumbers}
 use Rattle.block.specs.Contents.{vectorNumbers, blockOf}
 use Rattle.block.specs.declared.Read.the-variants.{Ended}
 use Rattle.block.proofs.Lent.{AllPlaced, vectors-fit, lent-room, lent-in-range, lent-placed}
@@ -18,10 +19,10 @@ use Rattle.search.specs.Values.{Answered}
 use Rattle.search.specs.Holds.{Holds}
 
 -- Vector k of a list whose block is in range, and whose vectors' numbers are, place by place
-vector-asked : (list : List ℤ) → InRange (blockOf list) → AllPlaced list → (k : ℕ) → k < countAt 2 list
-    → SearchAsked (countAt 0 list) (countAt 1 list) (countAt 3 list) (vectorNumbers list k)
+vector-asked : (o : Layout) (list : List ℤ) → InRange (blockOf o list) → AllPlaced o list → (k : ℕ) → k < countAt 2 list
+    → SearchAsked (countAt 0 list) (countAt 1 list) (countAt 3 list) (vectorNumbers o list k)
 unfolding blockOf
-vector-asked list r p k h =
+vector-asked o list r p k h =
     let placed = p k h in
     record {
       stream = r .stream;
@@ -42,13 +43,13 @@ vector-asked list r p k h =
 
 -- A list of which a record's reading, to its end, made another
 pub lent-holds : (bytes : List ℕ) (at : ℕ) (list list′ : List ℤ) → length list ≡ mostNumbers
-    → got (Ended at) list′ ≡ into 0 (readWhole bytes) list → Holds list′
+    → got (Ended at) list′ ≡ into 0 (readWhole bytes) list → Holds (layoutOf bytes) list′
 lent-holds bytes at list list′ room e =
     let ranged = lent-in-range bytes at list list′ room e in
     record {
       room = lent-room bytes at list list′ room e;
       ranged = ranged;
-      each = vector-asked list′ ranged (lent-placed bytes at list list′ room e);
+      each = vector-asked (layoutOf bytes) list′ ranged (lent-placed bytes at list list′ room e);
     }
 
 -- M and Q of such a list, and what is computed of them
@@ -57,7 +58,7 @@ pub record Sums (m q : ℕ) : Type 0 where
   pub square : m * m ≤ 16
   pub bits : m * q ≤ mostBits
 
-module _ (list : List ℤ) (h : Holds list) (m q : ℕ) (em : m ≡ countAt 0 list) (eq : q ≡ countAt 1 list) where
+module _ (o : Layout) (list : List ℤ) (h : Holds o list) (m q : ℕ) (em : m ≡ countAt 0 list) (eq : q ≡ countAt 1 list) where
   pub sums : Sums m q
   unfolding blockOf
   sums =
@@ -67,24 +68,25 @@ module _ (list : List ℤ) (h : Holds list) (m q : ℕ) (em : m ≡ countAt 0 li
 
   -- Vector k ends within the list, and a search may be asked for the part that it is
   module _ (k : ℕ) (l : k < countAt 2 list) where
-    pub vector-end : 5 + k * vectorSize m q + vectorSize m q ≤ mostNumbers
+    pub vector-end : headerSize o + k * vectorSize m q + vectorSize m q ≤ mostNumbers
     vector-end =
         let size = vectorSize (countAt 0 list) (countAt 1 list) in
-        rw (em, eq) (omega (arith, vectors-fit list (h .ranged), suc-mul k size, mul-le-mul l (le-refl size)))
+        rw (em, eq) (omega (arith, vectors-fit o list (h .ranged), suc-mul k size, mul-le-mul l (le-refl size)))
 
-    vector-part : let start = 5 + k * vectorSize m q in take (start + vectorSize m q - start) (drop start list) ≡ vectorNumbers list k
+    vector-part : let start = headerSize o + k * vectorSize m q in take (start + vectorSize m q - start) (drop start list) ≡ vectorNumbers o list k
     vector-part =
-        let start = 5 + k * vectorSize m q in
+        let start = headerSize o + k * vectorSize m q in
         let e : start + vectorSize m q - start ≡ vectorSize m q = omega arith in
         rw e (rw (em, eq))
 
     pub part-asked : (c : ℕ) → c ≡ countAt 3 list
-        → let start = 5 + k * vectorSize m q in SearchAsked m q c (take (start + vectorSize m q - start) (drop start list))
+        → let start = headerSize o + k * vectorSize m q in SearchAsked m q c (take (start + vectorSize m q - start) (drop start list))
     part-asked c ec = rw (vector-part, em, eq, ec) (h .each k l)
 
     -- What it answers under an allowance is the answer for vector k
-    pub part-answered : (c : ℕ) → c ≡ countAt 3 list → {d a : ℕ} → d ≡ a → {b : Bool} {n label : ℕ} {before after : List ℤ}
-        → let start = 5 + k * vectorSize m q in
-        Answered (vectorAt m q c (take (start + vectorSize m q - start) (drop start list))) d b n label before after
-        → Answered (vectorAt (countAt 0 list) (countAt 1 list) (countAt 3 list) (vectorNumbers list k)) a b n label before after
-    part-answered c ec ed answered = rw (vector-part, em, eq, ec, ed) at answered
+    pub part-answered : (c : ℕ) → c ≡ countAt 3 list → {w x : ℕ} → w ≡ x → {d a : ℕ} → d ≡ a
+        → {b : Bool} {n label : ℕ} {before after : List ℤ}
+        → let start = headerSize o + k * vectorSize m q in
+        Answered (vectorAt m q c (take (start + vectorSize m q - start) (drop start list))) w d b n label before after
+        → Answered (vectorAt (countAt 0 list) (countAt 1 list) (countAt 3 list) (vectorNumbers o list k)) x a b n label before after
+    part-answered c ec ew ed answered = rw (vector-part, em, eq, ec, ew, ed) at answered

@@ -1,6 +1,6 @@
 -- The soft values that code writes are the model's, and so is what a search of one vector returns.
 use Prim.Native.Nat.{ℕ, suc, _-_, _*_, _≤_, _<_}
-use mathlib.Core.Path.{_≡_, refl, sym, _∙_, ap, subst}
+use mathlib.Core.Path.{_≡_, refl, sym, _∙_, ap, ap₂, subst}
 use mathlib.Core.Bool.{Bool}
 use mathlib.Core.Logic.{⊎-elim}
 use mathlib.Core.List.{List, map, _++_}
@@ -11,7 +11,7 @@ use lib.ListN.{length, take, drop, replicate}
 use lib.Pow.{pow-pos}
 use Rattle.model.specs.Metric.{Vector, labelBits}
 use Rattle.model.specs.Soft.{places}
-use Rattle.model.specs.Block.{Answer, answer, mostBits}
+use Rattle.model.specs.Block.{Answer, emptySide, answer, mostBits}
 use Rattle.model.proofs.Bounds.{largest-pair}
 use Rattle.block.proofs.Places.{rows-count}
 use Rattle.metric.specs.Parts.{filled}
@@ -88,15 +88,15 @@ module _ {m q clip : ℕ} {numbers : List ℤ} (h : SearchAsked m q clip numbers
       ones-low = λ i. minima-low (vectorAt m q clip numbers) allowance m 0 0 mostBits e i .1;
     }
 
-    -- and is the model's answer
-    pub end-answered : (before after : List ℤ) → length before ≡ mostBits
-        → after ≡ filled (valueOf (vectorAt m q clip numbers) (takenOf 0 0 (t .zeros) (t .ones))) (m * q) before
-        → Answered (vectorAt m q clip numbers) allowance stopped count (t .label) before after
-    end-answered before after room f = record {
+    -- and is the model's answer, where `empty` is what an empty side gives
+    pub end-answered : (weak : ℕ) {empty : ℕ} → empty ≡ emptySide stopped weak clip → (before after : List ℤ) → length before ≡ mostBits
+        → after ≡ filled (valueOf (vectorAt m q clip numbers) empty (takenOf 0 0 (t .zeros) (t .ones))) (m * q) before
+        → Answered (vectorAt m q clip numbers) weak allowance stopped count (t .label) before after
+    end-answered weak {empty} chosen before after room f = record {
       stopped-is = ap (λ (x : Answer). x .stopped) same;
       count-is = ap (λ (x : Answer). x .count) same;
       label-is = ap (λ (x : Answer). x .result .label) same;
-      soft-is = f ∙ values ∙ ap (λ (n : ℕ). filled (valueOf v t) n before) bits ∙ front;
+      soft-is = f ∙ values ∙ ap₂ (λ (e n : ℕ). filled (valueOf v e t) n before) chosen bits ∙ front;
     }
       where
         v : Vector
@@ -111,11 +111,14 @@ module _ {m q clip : ℕ} {numbers : List ℤ} (h : SearchAsked m q clip numbers
         from : keptOf count stopped t ≡ below v allowance (length (v .rows)) 0 0 (fresh mostBits)
         from = e ∙ ap (λ (l : ℕ). below v allowance l 0 0 (fresh mostBits)) (sym (rows-count m q numbers))
 
-        same : answerOf stopped count (t .label) (map (valueOf v t) (places v)) ≡ answer v allowance
-        same = answered v (ranged _ _ _ _ h) allowance mostBits wide from
+        value : ℕ → ℤ
+        value = valueOf v (emptySide stopped weak clip) t
 
-        front : filled (valueOf v t) (labelBits v) before ≡ answer v allowance .result .soft ++ drop (labelBits v) before
-        front = soft-is v (ranged _ _ _ _ h) allowance mostBits wide from before (omega (arith, wide, room))
+        same : answerOf stopped count (t .label) (map value (places v)) ≡ answer v weak allowance
+        same = answered v (ranged _ _ _ _ h) weak allowance mostBits wide from
 
-        values : filled (valueOf v (takenOf 0 0 (t .zeros) (t .ones))) (m * q) before ≡ filled (valueOf v t) (m * q) before
-        values = filled-same _ _ (m * q) before (λ i k. value-same v (takenOf 0 0 (t .zeros) (t .ones)) t refl refl i)
+        front : filled value (labelBits v) before ≡ answer v weak allowance .result .soft ++ drop (labelBits v) before
+        front = soft-is v (ranged _ _ _ _ h) weak allowance mostBits wide from before (omega (arith, wide, room))
+
+        values : filled (valueOf v empty (takenOf 0 0 (t .zeros) (t .ones))) (m * q) before ≡ filled (valueOf v empty t) (m * q) before
+        values = filled-same _ _ (m * q) before (λ i k. value-same v empty (takenOf 0 0 (t .zeros) (t .ones)) t refl refl i)

@@ -7,9 +7,10 @@ use lib.ListN.{length}
 use Rattle.model.specs.Block.{InRange}
 use Rattle.block.specs.Reading.{countAt, mostNumbers}
 use Rattle.block.specs.Contents.{vectorNumbers, blockOf}
+use Rattle.block.specs.declared.Layout.{Layout}
 use Rattle.hypotheses.specs.Limits.{SearchAsked}
 
-pub record Holds (list : List ℤ) : Type 0 where
+pub record Holds (layout : Layout) (list : List ℤ) : Type 0 where
   pub room : length list ≡ mostNumbers
-  pub ranged : InRange (blockOf list)
-  pub each : (k : ℕ) → k < countAt 2 list → SearchAsked (countAt 0 list) (countAt 1 list) (countAt 3 list) (vectorNumbers list k)
+  pub ranged : InRange (blockOf layout list)
+  pub each : (k : ℕ) → k < countAt 2 list → SearchAsked (countAt 0 list) (countAt 1 list) (countAt 3 list) (vectorNumbers layout list k)

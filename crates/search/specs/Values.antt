@@ -9,8 +9,8 @@ use Rattle.model.specs.Metric.{Vector, labelBits}
 use Rattle.model.specs.Block.{answer}
 
 -- The model's answer is what is returned, with its soft values at the front of an array
-pub record Answered (v : Vector) (allowance : ℕ) (stopped : Bool) (count label : ℕ) (before after : List ℤ) : Type 0 where
-  pub stopped-is : stopped ≡ answer v allowance .stopped
-  pub count-is : count ≡ answer v allowance .count
-  pub label-is : label ≡ answer v allowance .result .label
-  pub soft-is : after ≡ answer v allowance .result .soft ++ drop (labelBits v) before
+pub record Answered (v : Vector) (weak allowance : ℕ) (stopped : Bool) (count label : ℕ) (before after : List ℤ) : Type 0 where
+  pub stopped-is : stopped ≡ answer v weak allowance .stopped
+  pub count-is : count ≡ answer v weak allowance .count
+  pub label-is : label ≡ answer v weak allowance .result .label
+  pub soft-is : after ≡ answer v weak allowance .result .soft ++ drop (labelBits v) before

@@ -11,7 +11,7 @@ ghost use mathlib.Core.Path.{_≡_};
 ghost use mathlib.Core.Bool.{true, false};
 ghost use Prim.Native.Nat.{_+_, _*_, _-_, _<_, _≤_, _^_};
 ghost use lib.ListN.{length};
-ghost use Rattle.model.specs.Block.{mostStreams, mostWidth, mostBits};
+ghost use Rattle.model.specs.Block.{emptySide, mostStreams, mostWidth, mostBits};
 ghost use Rattle.constellation.specs.Points.{Points};
 ghost use Rattle.metric.specs.Tables.{Tabled};
 ghost use Rattle.search_spec.specs.Program.{above, takenIn, limitsOf, keptOf, noted, below};
@@ -281,18 +281,26 @@ pub struct Found {
     pub label: u32,
 }
 
-// One vector's search under an allowance: its answer, the soft values at the front of `soft`. `points` are those of the constellation, and
-// `keys` is room to work in.
+// What an empty side gives: W in a stopped vector, else C.
+fn empty_side(stopped: bool, weak: u32, clip: u32) -> u32
+    ensures { λ r. ⌜ r ≡ emptySide stopped weak clip ⌝ }
+{
+    if stopped { weak } else { clip }
+}
+
+// One vector's search under an allowance: its answer, the soft values at the front of `soft`. `weak` is W, which the walk is not told;
+// `points` are those of the constellation, and `keys` is room to work in.
 pub fn search_vector(
     task: Task,
+    weak: u32,
     points: &[i8; PLACES],
     numbers: &[i32],
     keys: &mut [u64],
     soft: &mut [i32; 24],
 ) -> Found
-    requires { ⌜ Asked task (now numbers) × (length (now soft) ≡ 24) × (keyPlaces ≤ length (now keys))
+    requires { ⌜ Asked task (now numbers) × (weak ≤ task .clip) × (length (now soft) ≡ 24) × (keyPlaces ≤ length (now keys))
         × Points (task .width) (now points) ⌝ }
-    ensures { λ r. ⌜ Answered (vectorFor task (now (numbers .entry))) (task .allowance) (r .stopped) (r .count) (r .label)
+    ensures { λ r. ⌜ Answered (vectorFor task (now (numbers .entry))) weak (task .allowance) (r .stopped) (r .count) (r .label)
         (now (soft .entry)) (now (soft .exit)) ⌝ }
 {
     let mut tables = [0i32; TABLE];
@@ -321,7 +329,8 @@ pub fn search_vector(
         &mut minima,
         keys,
     );
-    hypotheses::write_soft(task, numbers, &minima, soft);
+    let empty = empty_side(end.stopped, weak, task.clip);
+    hypotheses::write_soft(task, empty, numbers, &minima, soft);
     Found {
         stopped: end.stopped,
         count: end.count,

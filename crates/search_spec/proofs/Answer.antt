@@ -12,7 +12,7 @@ use lib.Pow.{pow-mono}
 use Rattle.model.specs.Constellation.{Bits}
 use Rattle.model.specs.Metric.{Row, Vector, metric, labelBits, priorAt}
 use Rattle.model.specs.Soft.{places, softValue}
-use Rattle.model.specs.Block.{Answer, answer, RowsInRange, mostStreams, mostWidth, mostBits}
+use Rattle.model.specs.Block.{Answer, emptySide, answer, RowsInRange, mostStreams, mostWidth, mostBits}
 use Rattle.model.specs.Search.{search, valueAt, searchAnswer}
 use Rattle.model.proofs.Lists.{map-upFrom}
 use Rattle.model.proofs.Search.{search-answers}
@@ -29,13 +29,21 @@ pub largest-low : (q m : ℕ) → q ≤ mostWidth → m ≤ mostStreams → m * 
 largest-low q m h k few = omega (arith, metric-largest q m h k few)
 
 -- What agrees gives one answer
-same-answer : (v : Vector) (k : Kept) (allowance : ℕ) → Agrees v (search v allowance) k → replied v k ≡ searchAnswer v (search v allowance)
+same-answer : (v : Vector) (weak : ℕ) (k : Kept) (allowance : ℕ) → Agrees v (search v allowance) k
+    → replied v weak k ≡ searchAnswer v weak (search v allowance)
 unfolding replied searchAnswer valueOf
-same-answer v k allowance a = λ j. answerOf (a .stopped j) (a .count j) (a .label j) (values j)
+same-answer v weak k allowance a = λ j. answerOf (a .stopped j) (a .count j) (a .label j) (soft j)
   where
-    values : map (valueOf v (k .taken)) (places v) ≡ map (valueAt v (search v allowance)) (places v)
-    values = map-upFrom _ _ 0 (labelBits v) (λ i l.
-        ap₂ (softValue (v .clip) (v .clip) (priorAt v i)) (a .ones .each i (omega arith)) (a .zeros .each i (omega arith)))
+    empty : Bool → ℕ
+    empty stopped = emptySide stopped weak (v .clip)
+
+    values : (e : ℕ) → map (valueOf v e (k .taken)) (places v) ≡ map (valueAt v e (search v allowance)) (places v)
+    values e = map-upFrom _ _ 0 (labelBits v) (λ i l.
+        ap₂ (softValue (v .clip) e (priorAt v i)) (a .ones .each i (omega arith)) (a .zeros .each i (omega arith)))
+
+    soft : map (valueOf v (empty (k .stopped)) (k .taken)) (places v)
+        ≡ map (valueAt v (empty (search v allowance .stopped)) (search v allowance)) (places v)
+    soft = values (empty (k .stopped)) ∙ ap (λ (t : Bool). map (valueAt v (empty t) (search v allowance)) (places v)) (a .stopped)
 
 -- The last rows of those in range are
 last-rows : (q : ℕ) (todo done : List Row) → RowsInRange q (reverseAux todo done) → RowsInRange q done
@@ -63,22 +71,25 @@ module _ (v : Vector) (r : Ranged v) where
       let ranged = last-rows (v .width) todo done (subst (RowsInRange (v .width)) (sym e) (r .rows)) in
       omega (arith, rows-low (length done) few, metric-bound (v .width) done ranged bits)
 
-  -- The program's answer is the model's, under any allowance
-  pub replied-is : (allowance room : ℕ) → labelBits v ≤ room
-      → replied v (below v allowance (length (v .rows)) 0 0 (fresh room)) ≡ answer v allowance
-  replied-is allowance room h =
-      same-answer v _ allowance (search-agrees v allowance metric-low (r .bit) room h (r .stream)) ∙ search-answers v (r .bit) allowance
+  -- The program's answer is the model's, whatever W is and under any allowance
+  pub replied-is : (weak allowance room : ℕ) → labelBits v ≤ room
+      → replied v weak (below v allowance (length (v .rows)) 0 0 (fresh room)) ≡ answer v weak allowance
+  replied-is weak allowance room h =
+      same-answer v weak _ allowance (search-agrees v allowance metric-low (r .bit) room h (r .stream)) ∙ search-answers v (r .bit) allowance weak
 
   -- What a program has kept at the end
-  module _ (allowance room : ℕ) (h : labelBits v ≤ room) {count : ℕ} {stopped : Bool} {t : Taken}
+  module _ (weak allowance room : ℕ) (h : labelBits v ≤ room) {count : ℕ} {stopped : Bool} {t : Taken}
       (e : keptOf count stopped t ≡ below v allowance (length (v .rows)) 0 0 (fresh room)) where
+    abbrev value : ℕ → ℤ
+    value = valueOf v (emptySide stopped weak (v .clip)) t
+
     -- is the model's answer
-    pub answered : answerOf stopped count (t .label) (map (valueOf v t) (places v)) ≡ answer v allowance
+    pub answered : answerOf stopped count (t .label) (map value (places v)) ≡ answer v weak allowance
     unfolding replied
-    answered = ap (replied v) e ∙ replied-is allowance room h
+    answered = ap (replied v weak) e ∙ replied-is weak allowance room h
 
     -- with its soft values at the front of an array
     pub soft-is : (before : List ℤ) → labelBits v ≤ length before
-        → filled (valueOf v t) (labelBits v) before ≡ answer v allowance .result .soft ++ drop (labelBits v) before
+        → filled value (labelBits v) before ≡ answer v weak allowance .result .soft ++ drop (labelBits v) before
     soft-is before k =
-        filled-is (valueOf v t) (labelBits v) before k ∙ ap (λ (a : Answer). a .result .soft ++ drop (labelBits v) before) answered
+        filled-is value (labelBits v) before k ∙ ap (λ (a : Answer). a .result .soft ++ drop (labelBits v) before) answered

@@ -11,7 +11,7 @@ use Rattle.model.specs.Constellation.{real, bitsOf}
 use Rattle.model.specs.Metric.{Row, Vector, increment, labelBits, priorAt}
 use Rattle.model.specs.Soft.{Least, infinite, finite, upFrom, places, softValue}
 use Rattle.model.specs.Walk.{anyOf}
-use Rattle.model.specs.Block.{Answer, RowsInRange, mostStreams, mostWidth, mostBits}
+use Rattle.model.specs.Block.{Answer, emptySide, RowsInRange, mostStreams, mostWidth, mostBits}
 use Rattle.model.proofs.Bounds.{largestMetric}
 use Rattle.metric.specs.Parts.{bitOf, filled}
 use Rattle.search_spec.specs.Arrays.{leastFirst}
@@ -173,14 +173,15 @@ unfoldable pub restOf : Vector → ℕ → ℕ → ℕ → ℕ → List ℕ → 
 restOf v allowance level node fuel keys k =
     siblings (testOf v level node) (λ s. below v allowance level (childIn v level node s)) (2 ^ v .width) allowance fuel keys k
 
--- Bit i's soft value, from the minima
-unfoldable pub valueOf : Vector → Taken → ℕ → ℤ
-valueOf v t i = softValue (v .clip) (v .clip) (priorAt v i) (sideOf (getD (t .ones) i 0)) (sideOf (getD (t .zeros) i 0))
+-- Bit i's soft value, from the minima; `empty` is what an empty side gives
+unfoldable pub valueOf : Vector → ℕ → Taken → ℕ → ℤ
+valueOf v empty t i = softValue (v .clip) empty (priorAt v i) (sideOf (getD (t .ones) i 0)) (sideOf (getD (t .zeros) i 0))
 
 -- A vector's part of the reply
 abbrev pub answerOf : Bool → ℕ → ℕ → List ℤ → Answer
 answerOf stopped count label soft = record { stopped = stopped; count = count; result = record { label = label; soft = soft } }
 
--- The answer, from what is kept at the end
-unfoldable pub replied : Vector → Kept → Answer
-replied v k = answerOf (k .stopped) (k .count) (k .taken .label) (map (valueOf v (k .taken)) (places v))
+-- The answer by W, from what is kept at the end
+unfoldable pub replied : Vector → ℕ → Kept → Answer
+replied v weak k =
+    answerOf (k .stopped) (k .count) (k .taken .label) (map (valueOf v (emptySide (k .stopped) weak (v .clip)) (k .taken)) (places v))

@@ -1,10 +1,12 @@
-//! What IEEE 802.11's tables and document 01's first trap ask for, asked of the proved library itself: expected answers are
-//! worked out from the tables and by hand, not by a Rust detector.
+//! What IEEE 802.11's tables, document 01's readings and first trap, and readings with document 02's W ask for, asked of the proved
+//! library itself: expected answers are worked out from the tables and by hand, not by a Rust detector.
 
 use reference::comparison::expect;
+use reference::format::block::Block;
 use reference::format::reply;
 use reference::inputs::eq_31;
 use reference::inputs::ieee80211::receptions;
+use reference::inputs::readings::{starred, weakened, WEAK_RECORD, WEAK_REPLY};
 
 /// Each symbol of each table in each stream, 10 x (2 + 4 + 16 + 64) + 6 x 256 receptions: with C = 4 every value is 4 or -4 by
 /// the sent bit (tests/mapping.rs holds the expected ones to that), and a node a stream is walked.
@@ -13,6 +15,14 @@ fn a_sent_point_is_found_in_every_stream() {
     let receptions = receptions(4);
     assert_eq!(receptions.len(), 2_396);
     for reception in receptions {
+        assert_eq!(reception.check(linked::detect), reception.block.streams as i64, "{}", reception.sent);
+    }
+}
+
+/// The same with W = 0: one side of every bit is cut, and none is empty.
+#[test]
+fn a_sent_point_has_nothing_of_w() {
+    for reception in receptions(4).into_iter().map(|reception| reception.with_weak(0)) {
         assert_eq!(reception.check(linked::detect), reception.block.streams as i64, "{}", reception.sent);
     }
 }
@@ -26,7 +36,19 @@ fn soft_values_are_those_of_the_tables() {
     }
 }
 
-/// Leaves 10, 12, 8, 6: the bit's value is -3; a clip from below at each new best leaf gives -1 (tests/wrong_detectors.rs).
+/// The starred readings, and those with W.
+#[test]
+fn the_readings() {
+    for reading in starred().into_iter().chain(weakened()) {
+        let block = Block::of(&reading.contents);
+        expect(linked::detect, &block.record(), block.room(), Ok(&reply::encode(&block, &reading.answers)));
+    }
+    expect(linked::detect, &WEAK_RECORD, 24, Ok(&WEAK_REPLY));
+    expect(linked::detect, &WEAK_RECORD, 23, Err(14));
+}
+
+/// Leaves 10, 12, 8, 6: the bit's value is -3; a clip from below at each new best leaf gives -1 (tests/wrong_detectors.rs). A stopped
+/// vector has W where a bit has the same value in all of its leaves.
 #[test]
 fn a_clip_at_each_new_best_leaf_would_be_wrong() {
     for (block, answer) in eq_31::cases() {

@@ -9,22 +9,32 @@ use reference::inputs::lists::{self, List};
 use reference::inputs::{lengths, trials};
 use std::iter::once;
 
-fn same_write(list: &[i32], lengths: impl IntoIterator<Item = usize>) -> Outcome<u8> {
-    same(linked::write, writer::write, list, lengths)
+fn write(list: &List, record: &mut [u8]) -> i64 {
+    linked::write(list.opening, &list.numbers, record)
+}
+
+fn same_write(list: &List, lengths: impl IntoIterator<Item = usize>) -> Outcome<u8> {
+    same(write, lists::write, list, lengths)
 }
 
 fn same_read(record: &[u8], lengths: impl IntoIterator<Item = usize>) -> Outcome<i32> {
     same(linked::read, writer::read, record, lengths)
 }
 
+/// The opening of an accepted record, as the writer is told it.
+fn told(record: &[u8]) -> u32 {
+    u32::from(record[3] - 0x30)
+}
+
 #[test]
 fn every_list() {
     compare(lists::groups(), |list| {
-        let (returned, record) = same_write(&list.numbers, list.lengths());
+        let (returned, record) = same_write(&list, list.lengths());
         let is_accepted = returned > 0;
         if is_accepted {
             let count = list.numbers.len();
             assert_eq!(same_read(&record, [count]), (count as i64, list.numbers));
+            assert_eq!(told(&record), list.opening);
         }
         is_accepted
     });
@@ -39,7 +49,8 @@ fn every_record() {
         let is_accepted = returned > 0;
         if is_accepted {
             let count = record.len();
-            assert_eq!(same_write(&numbers, [count]), (count as i64, record));
+            let list = List::told(told(&record), numbers);
+            assert_eq!(same_write(&list, [count]), (count as i64, record));
         } else {
             assert_eq!(linked::detect(&record, &mut [0; MOST_ROOM]), returned, "{record:02X?}");
         }
@@ -48,29 +59,47 @@ fn every_record() {
 }
 
 /// A list that is refused, but for ending early: each beginning that has the refused number gets the same refusal, and a shorter one
-/// passes all checks up to its end, so that it gets 2, or no refusal at all. hosts/record.c finds the refused number by this.
+/// passes all checks up to its end, so that it gets 2, or no refusal at all. hosts/record.c finds the refused number by this. Where the
+/// opening is refused, the empty list is, too.
 #[test]
 fn beginnings_of_refused_lists() {
     let mut refused = 0;
-    for List { numbers, .. } in lists::a_fault_and_an_end().chain(lists::two_faults()).chain(lists::too_long().take(418)) {
-        let answer = |length: usize| linked::write(&numbers[..length], &mut [0; MOST_BYTES]);
-        let whole = answer(numbers.len());
-        assert!(whole < 0 && whole != -2, "{numbers:?}");
-        let shortest = (0..=numbers.len()).find(|&length| answer(length) == whole).expect("the whole list is refused");
-        assert!((0..shortest).all(|length| answer(length) == -2 || answer(length) > 0), "{numbers:?}");
-        assert!((shortest..numbers.len()).all(|length| answer(length) == whole), "{numbers:?}");
+    let short = lists::too_long().take(836);
+    let weak = lists::weak_values().filter(|list| !(0..=list.numbers[3]).contains(&list.numbers[4]));
+    let unknown = lists::unknown_openings().step_by(10);
+    for list in lists::a_fault_and_an_end().chain(lists::two_faults()).chain(short).chain(weak).chain(unknown) {
+        let answer = |length: usize| linked::write(list.opening, &list.numbers[..length], &mut [0; MOST_BYTES]);
+        let count = list.numbers.len();
+        let whole = answer(count);
+        assert!(whole < 0 && whole != -2, "{list:?}");
+        let shortest = (0..=count).find(|&length| answer(length) == whole).expect("the whole list is refused");
+        assert!((0..shortest).all(|length| answer(length) == -2 || answer(length) > 0), "{list:?}");
+        assert!((shortest..count).all(|length| answer(length) == whole), "{list:?}");
+        assert_eq!(shortest == 0, whole == -1, "{list:?}");
         refused += 1;
     }
-    assert_eq!(refused, 13_826);
+    assert_eq!(refused, 29_937);
+}
+
+/// An opening that there is not is refused before the list or the buffer is looked at: an empty list, and no room.
+#[test]
+fn unknown_openings() {
+    for opening in [0, 3, 4, u32::MAX] {
+        assert_eq!(linked::write(opening, &[], &mut []), -1, "{opening}");
+    }
+    for opening in 1..=2 {
+        assert_eq!(linked::write(opening, &[], &mut []), -2, "{opening}");
+    }
 }
 
 /// Lent memory of every length up to some entries to spare.
 #[test]
 fn lent_memory_of_any_length() {
-    for List { numbers, room } in lists::whole().take(38) {
-        let (returned, record) = same_write(&numbers, once(room).chain(0..room + 5));
+    for list in lists::whole().take(76) {
+        let room = list.room;
+        let (returned, record) = same_write(&list, once(room).chain(0..room + 5));
         assert_eq!(returned, room as i64);
-        let count = numbers.len();
-        assert_eq!(same_read(&record, once(count).chain(0..count + 5)), (count as i64, numbers));
+        let count = list.numbers.len();
+        assert_eq!(same_read(&record, once(count).chain(0..count + 5)), (count as i64, list.numbers));
     }
 }

@@ -34,7 +34,7 @@ fn framed(case: &Case) -> Vec<u8> {
 /// A case's line of the output.
 fn line(case: &Case) -> String {
     match read(&case.bytes) {
-        Ok(numbers) => format!("accepted {} {}\n", numbers.len(), checksum(&numbers)),
+        Ok(contents) => format!("accepted {} {}\n", contents.numbers.len(), checksum(&contents.numbers)),
         Err(refusal) => format!("refused {refusal}\n"),
     }
 }

@@ -5,12 +5,12 @@
 //! record for each refusal: hosts/expected/samples and hosts/expected/refusals. The samples that were written by hand have their
 //! numbers from samples/NAME.numbers, which is read and stays as it is. Document 01's record and listing, as they stand there, are
 //! the listing program's own test: crates/list/stdin and stdout. `samples --check ROOT` compares the files there with what it would
-//! write. `samples --refusals FOLDER` writes the records for the refusals, 1.rec to 13.rec and 15.rec.
+//! write. `samples --refusals FOLDER` writes the records for the refusals, 1.rec to 13.rec, 15.rec and 16.rec.
 
 use reference::command::{self, run};
-use reference::format::encoding::{encode, Numbers};
+use reference::format::encoding::Contents;
 use reference::format::reply::room;
-use reference::format::text::{numbers_of, text_of};
+use reference::format::text::{contents_of, text_of};
 use reference::inputs::readings::{LISTING, LISTING_RECORD};
 use reference::inputs::samples::{all, broken, refusals, WRITTEN};
 use reference::listing::{host_lines, listing, reason};
@@ -33,10 +33,10 @@ fn stored_files(root: &Path) -> Result<Vec<File>, String> {
     let mut files =
         vec![("crates/list/stdin".to_string(), LISTING_RECORD.to_vec()), ("crates/list/stdout".to_string(), LISTING.into())];
     let mut printed = String::new();
-    for (name, numbers) in all() {
-        files.push((format!("samples/{name}.numbers"), text_of(&numbers).into_bytes()));
+    for (name, contents) in all() {
+        files.push((format!("samples/{name}.numbers"), text_of(&contents).into_bytes()));
     }
-    let numbered = all().into_iter().chain(written(root)?).map(|(name, numbers)| (name, encode(&numbers)));
+    let numbered = all().into_iter().chain(written(root)?).map(|(name, contents)| (name, contents.record()));
     for (name, record) in numbered.chain(broken()) {
         files.push((format!("samples/{name}.txt"), listing(&record).into_bytes()));
         printed += &host_lines(&format!("samples/{name}.rec"), &record);
@@ -48,12 +48,12 @@ fn stored_files(root: &Path) -> Result<Vec<File>, String> {
 }
 
 /// The samples that were written by hand: their names, and the numbers of their texts.
-fn written(root: &Path) -> Result<Vec<(&'static str, Numbers)>, String> {
+fn written(root: &Path) -> Result<Vec<(&'static str, Contents)>, String> {
     let taken = |name: &'static str| {
         let file = format!("samples/{name}.numbers");
         let text = command::read(&root.join(&file))?;
-        let numbers = numbers_of(&String::from_utf8_lossy(&text)).map_err(|said| format!("{file}: {said}"))?;
-        Ok((name, numbers))
+        let contents = contents_of(&String::from_utf8_lossy(&text)).map_err(|said| format!("{file}: {said}"))?;
+        Ok((name, contents))
     };
     WRITTEN.into_iter().map(taken).collect()
 }

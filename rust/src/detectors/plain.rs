@@ -1,5 +1,5 @@
-//! The plain detector: document 01 word for word, and 02's 256 points, for checking others by. What the walk asks of the leaves walked
-//! so far is worked out from their list at every test, and nothing is kept.
+//! The plain detector: document 01 word for word, and 02's 256 points and weak value, for checking others by. What the walk asks of the
+//! leaves walked so far is worked out from their list at every test, and nothing is kept.
 //!
 //! Streams, rows and bits count from 0 here: stream 0 is the paper's stream 1, and bit 0 the label's first and highest.
 
@@ -38,7 +38,8 @@ fn answer(block: &Block, vector: &Vector, allowance: i64) -> Answer {
     let mut walk = Walk { block, vector, allowance, nodes: 0, stopped: false, leaves: Vec::new() };
     walk.below(&[], 0);
     let best = best(&walk.leaves).expect("an allowance of at least M reaches a leaf");
-    let value = |bit: usize| soft_value(&walk.leaves, block.mask(bit), vector.priors[bit], block.clip);
+    let empty = if walk.stopped { block.weak } else { block.clip };
+    let value = |bit: usize| soft_value(&walk.leaves, block.mask(bit), vector.priors[bit], block.clip, empty);
     let values = (0..block.label_bits()).map(value).collect();
     Answer { stopped: walk.stopped, nodes: walk.nodes, label: best.label, values }
 }
@@ -127,12 +128,12 @@ fn least(leaves: &[Leaf], mask: usize, is_one: bool) -> Option<i64> {
     leaves.iter().filter(|leaf| (leaf.label & mask != 0) == is_one).map(|leaf| leaf.metric).min()
 }
 
-/// Least metric with the bit 1, less the least with it 0, less the prior, clipped; an empty side is infinite.
-fn soft_value(leaves: &[Leaf], mask: usize, prior: i64, clip: i64) -> i64 {
+/// Least metric with the bit 1, less the least with it 0, less the prior, clipped; for an empty side +`empty` or -`empty`.
+fn soft_value(leaves: &[Leaf], mask: usize, prior: i64, clip: i64, empty: i64) -> i64 {
     match (least(leaves, mask, true), least(leaves, mask, false)) {
         (Some(one), Some(zero)) => (one - zero - prior).clamp(-clip, clip),
-        (None, _) => clip,
-        (_, None) => -clip,
+        (None, _) => empty,
+        (_, None) => -empty,
     }
 }
 

@@ -1,6 +1,6 @@
-//! A block record's numbers by their names in document 01.
+//! A block record's numbers by their names in documents 01 and 02.
 
-use super::encoding::{encode, Numbers};
+use super::encoding::{Contents, Numbers, Opening};
 use super::record::{self, Refusal};
 use super::reply;
 use std::ops::{Add, Mul, Sub};
@@ -64,12 +64,14 @@ pub const SHAPES: [(usize, usize); 19] = [
     (3, 8),
 ];
 
-/// A block: M streams of Q bits, the clip C, the share D, and N vectors.
+/// A block: M streams of Q bits, the clip C, the weak value W, the share D, and N vectors. An older record has W = C.
 #[derive(Clone, Debug, PartialEq, Eq)]
 pub struct Block {
+    pub opening: Opening,
     pub streams: usize,
     pub bits: usize,
     pub clip: i64,
+    pub weak: i64,
     pub share: i64,
     pub vectors: Vec<Vector>,
 }
@@ -83,27 +85,49 @@ pub struct Vector {
 }
 
 impl Block {
+    /// The block of an older record.
+    pub fn older(streams: usize, bits: usize, clip: i64, share: i64, vectors: Vec<Vector>) -> Block {
+        Block { opening: Opening::One, streams, bits, clip, weak: clip, share, vectors }
+    }
+
+    /// The same with this W, in a record that has one.
+    pub fn with_weak(self, weak: i64) -> Block {
+        Block { opening: Opening::Two, weak, ..self }
+    }
+
+    /// The same as an older record has it, with W = C.
+    pub fn without_weak(self) -> Block {
+        Block::older(self.streams, self.bits, self.clip, self.share, self.vectors)
+    }
+
     /// The block of an accepted record's numbers.
-    pub fn of(numbers: &[i64]) -> Block {
-        let (streams, bits) = (numbers[0] as usize, numbers[1] as usize);
-        let mut rest = numbers[5..].iter().copied();
-        let vectors = (0..numbers[2]).map(|_| Vector::taken(&mut rest, streams, streams * bits)).collect();
-        Block { streams, bits, clip: numbers[3], share: numbers[4], vectors }
+    pub fn of(contents: &Contents) -> Block {
+        let opening = contents.opening;
+        let mut rest = contents.numbers.iter().copied();
+        let mut next = || rest.next().expect("an accepted record has all its numbers");
+        let (streams, bits, count, clip) = (next() as usize, next() as usize, next(), next());
+        let weak = if opening.has_weak() { next() } else { clip };
+        let share = next();
+        let vectors = (0..count).map(|_| Vector::taken(&mut next, streams, streams * bits)).collect();
+        Block { opening, streams, bits, clip, weak, share, vectors }
     }
 
     /// The block of a record's bytes.
     pub fn read(record: &[u8]) -> Result<Block, Refusal> {
-        record::read(record).map(|numbers| Block::of(&numbers))
+        record::read(record).map(|contents| Block::of(&contents))
     }
 
-    /// Its numbers in record order.
-    pub fn numbers(&self) -> Numbers {
-        let sizes = [self.streams as i64, self.bits as i64, self.vectors.len() as i64, self.clip, self.share];
-        sizes.into_iter().chain(self.vectors.iter().flat_map(Vector::numbers)).collect()
+    /// Its opening, and its numbers in record order.
+    pub fn contents(&self) -> Contents {
+        let mut numbers = vec![self.streams as i64, self.bits as i64, self.vectors.len() as i64, self.clip];
+        numbers.extend(self.opening.has_weak().then_some(self.weak));
+        numbers.push(self.share);
+        numbers.extend(self.vectors.iter().flat_map(Vector::numbers));
+        Contents { opening: self.opening, numbers }
     }
 
     pub fn record(&self) -> Vec<u8> {
-        encode(&self.numbers())
+        self.contents().record()
     }
 
     /// The shortest reply buffer that is accepted.
@@ -142,8 +166,7 @@ pub fn is_against(prior: i64, is_one: bool) -> bool {
 }
 
 impl Vector {
-    fn taken(rest: &mut impl Iterator<Item = i64>, streams: usize, label_bits: usize) -> Vector {
-        let mut next = || rest.next().expect("an accepted record has all its numbers");
+    fn taken(mut next: impl FnMut() -> i64, streams: usize, label_bits: usize) -> Vector {
         let mut matrix = vec![vec![Complex::ZERO; streams]; streams];
         for (row, entries) in matrix.iter_mut().enumerate() {
             entries[row] = Complex { re: next(), im: 0 };

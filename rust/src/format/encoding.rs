@@ -1,11 +1,110 @@
-//! How a record's numbers stand in it, by document 01, "The record": their forms, their places, and an encoder that makes records
-//! for tests, wrong ones too. Nothing is ranged here.
+//! How a record's numbers stand in it, by document 01, "The record", and by document 02's Point 4, which adds W: openings, the numbers'
+//! forms and their places, and an encoder that makes records for tests, wrong ones too. Nothing is ranged here.
 
-/// The four bytes that open a record.
-pub const OPENING: [u8; 4] = [0x43, 0x42, 0x52, 0x31];
+/// How a record opens, which says what numbers it has.
+#[derive(Clone, Copy, Debug, PartialEq, Eq)]
+pub enum Opening {
+    /// Document 01's.
+    One,
+    /// W stands directly after C.
+    Two,
+}
 
-/// A record's whole numbers, unfolded and in record order: M, Q, N, C, D, then each vector's.
+impl Opening {
+    pub const ALL: [Opening; 2] = [Opening::One, Opening::Two];
+
+    /// How many bytes it has.
+    pub const LENGTH: usize = 4;
+
+    /// The number that a writer is told for it.
+    pub fn number(self) -> u32 {
+        match self {
+            Opening::One => 1,
+            Opening::Two => 2,
+        }
+    }
+
+    /// The opening that a writer is told by a number, if there is one.
+    pub fn told(number: u32) -> Option<Opening> {
+        Opening::ALL.into_iter().find(|opening| opening.number() == number)
+    }
+
+    pub fn bytes(self) -> [u8; Opening::LENGTH] {
+        match self {
+            Opening::One => [0x43, 0x42, 0x52, 0x31],
+            Opening::Two => [0x43, 0x42, 0x52, 0x32],
+        }
+    }
+
+    /// The opening that a record begins with, if it begins with one.
+    pub fn of(record: &[u8]) -> Option<Opening> {
+        Opening::ALL.into_iter().find(|opening| record.starts_with(&opening.bytes()))
+    }
+
+    /// Does a record that opens so have W?
+    pub fn has_weak(self) -> bool {
+        self.sizes().contains(&Place::Weak)
+    }
+
+    /// The places of the numbers before the first vector.
+    pub fn sizes(self) -> &'static [Place] {
+        use Place::*;
+        match self {
+            Opening::One => &[Streams, Bits, Vectors, Clip, Share],
+            Opening::Two => &[Streams, Bits, Vectors, Clip, Weak, Share],
+        }
+    }
+
+    /// The places of a record, in record order.
+    pub fn places(self, streams: i64, bits: i64, vectors: i64) -> Vec<Place> {
+        let mut all = self.sizes().to_vec();
+        for _ in 0..vectors {
+            for row in 0..streams {
+                all.push(Place::Diagonal);
+                all.extend((row + 1..streams).flat_map(|_| [Place::Right, Place::Right]));
+            }
+            all.extend((0..streams).flat_map(|_| [Place::Received, Place::Received]));
+            all.extend((0..streams * bits).map(|_| Place::Prior));
+        }
+        all
+    }
+}
+
+/// A record's whole numbers, unfolded and in record order; what they are is said by the opening.
 pub type Numbers = Vec<i64>;
+
+/// What a record says: its opening, and its numbers.
+#[derive(Clone, Debug, PartialEq, Eq)]
+pub struct Contents {
+    pub opening: Opening,
+    pub numbers: Numbers,
+}
+
+impl Contents {
+    /// The places that M, Q and N, the first of the numbers, call for.
+    pub fn places(&self) -> Vec<Place> {
+        self.opening.places(self.numbers[0], self.numbers[1], self.numbers[2])
+    }
+
+    /// Each number's bytes. M, Q and N say how many there are.
+    pub fn parts(&self) -> Vec<Vec<u8>> {
+        let places = self.places();
+        assert_eq!(self.numbers.len(), places.len(), "M, Q and N say how many numbers there are");
+        places.iter().zip(&self.numbers).map(|(place, &number)| place.bytes(number)).collect()
+    }
+
+    /// The record: the opening, then each number's shortest form. Numbers out of range make records that are refused.
+    pub fn record(&self) -> Vec<u8> {
+        [self.opening.bytes().as_slice(), &self.parts().concat()].concat()
+    }
+
+    /// The same with another number, counted from 0.
+    pub fn with(&self, at: usize, number: i64) -> Contents {
+        let mut other = self.clone();
+        other.numbers[at] = number;
+        other
+    }
+}
 
 /// n at least 0 is folded to 2n, n below 0 to -2n - 1.
 pub fn fold(number: i64) -> i64 {
@@ -49,6 +148,7 @@ pub enum Place {
     Bits,
     Vectors,
     Clip,
+    Weak,
     Share,
     Diagonal,
     Right,
@@ -57,14 +157,12 @@ pub enum Place {
 }
 
 impl Place {
-    /// Those of M, Q, N, C and D.
-    pub const OF_SIZES: [Place; 5] = [Place::Streams, Place::Bits, Place::Vectors, Place::Clip, Place::Share];
-
     /// Those of a vector's numbers.
     pub const OF_VECTORS: [Place; 4] = [Place::Diagonal, Place::Right, Place::Received, Place::Prior];
 
-    pub fn all() -> impl Iterator<Item = Place> {
-        Place::OF_SIZES.into_iter().chain(Place::OF_VECTORS)
+    /// All that an opening has.
+    pub fn all(opening: Opening) -> impl Iterator<Item = Place> {
+        opening.sizes().iter().copied().chain(Place::OF_VECTORS)
     }
 
     /// Has a number that stands here a sign, so that it is folded?
@@ -82,32 +180,6 @@ impl Place {
     }
 }
 
-/// The places of a record, in record order.
-pub fn places(streams: i64, bits: i64, vectors: i64) -> Vec<Place> {
-    let mut all = Place::OF_SIZES.to_vec();
-    for _ in 0..vectors {
-        for row in 0..streams {
-            all.push(Place::Diagonal);
-            all.extend((row + 1..streams).flat_map(|_| [Place::Right, Place::Right]));
-        }
-        all.extend((0..streams).flat_map(|_| [Place::Received, Place::Received]));
-        all.extend((0..streams * bits).map(|_| Place::Prior));
-    }
-    all
-}
-
-/// Each number's bytes, where M, Q and N, the first of them, say how many there are.
-pub fn parts(numbers: &[i64]) -> Vec<Vec<u8>> {
-    let places = places(numbers[0], numbers[1], numbers[2]);
-    assert_eq!(numbers.len(), places.len(), "M, Q and N say how many numbers there are");
-    places.iter().zip(numbers).map(|(place, &number)| place.bytes(number)).collect()
-}
-
-/// The record of these numbers: the opening, then each number's shortest form. Numbers out of range make records that are refused.
-pub fn encode(numbers: &[i64]) -> Vec<u8> {
-    [OPENING.to_vec(), parts(numbers).concat()].concat()
-}
-
 #[cfg(test)]
 mod tests {
     use super::*;
@@ -118,5 +190,19 @@ mod tests {
             assert_eq!(fold(number), folded);
             assert_eq!(unfold(folded), number);
         }
+    }
+
+    /// An opening's number is its last byte less 30, and each other number and byte has none.
+    #[test]
+    fn an_opening_by_its_number_and_by_its_bytes() {
+        for opening in Opening::ALL {
+            assert_eq!(opening.bytes(), [0x43, 0x42, 0x52, 0x30 + opening.number() as u8]);
+            assert_eq!(Opening::told(opening.number()), Some(opening));
+            assert_eq!(Opening::of(&opening.bytes()), Some(opening));
+            assert_eq!(Opening::of(&opening.bytes()[..3]), None);
+        }
+        assert_eq!([0, 3, 4, 0x31, 257, 258, u32::MAX].map(Opening::told), [None; 7]);
+        let by_last = |last: u8| Opening::of(&[0x43, 0x42, 0x52, last]);
+        assert_eq!((0..=255).filter_map(by_last).collect::<Vec<_>>(), Opening::ALL);
     }
 }

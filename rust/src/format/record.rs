@@ -1,45 +1,35 @@
 //! The record reader, by document 01, "The record" and "Where a record is turned back", and by document 02's Point 1, which adds
-//! Q = 8.
+//! Q = 8, and its Point 4, which adds W.
 
-use super::encoding::{unfold, Numbers, OPENING};
+use super::encoding::{unfold, Contents, Numbers, Opening};
 
 /// What Q may be.
 pub const WIDTHS: [i64; 5] = [1, 2, 4, 6, 8];
 
-/// The most bytes that a record has, and the most numbers: 64 vectors of four streams of six bits.
-pub const MOST_BYTES: usize = 8_207;
-pub const MOST_NUMBERS: usize = 3_077;
+/// The most bytes that a record has, and the most numbers: 64 vectors of four streams of six bits, and W.
+pub const MOST_BYTES: usize = 8_211;
+pub const MOST_NUMBERS: usize = 3_078;
 
-/// A refusal that a record can meet: 1 to 13 by document 01's table, and 15 by document 02.
+/// A refusal that a record can meet: 1 to 13 by document 01's table, 15 and 16 by document 02.
 pub type Refusal = u32;
 
-/// A check of Q, made as soon as it is read, which may look at M too.
-pub type WidthCheck = fn(streams: i64, bits: i64) -> Result<(), Refusal>;
-
-/// What becomes of a record: its numbers, or the refusal that decides.
-pub fn read(bytes: &[u8]) -> Result<Numbers, Refusal> {
-    read_by(check_width, bytes)
-}
-
-/// The same with another check of Q in the right one's place, for a test of the tests.
-pub fn read_by(check: WidthCheck, bytes: &[u8]) -> Result<Numbers, Refusal> {
+/// What becomes of a record: its opening and its numbers, or the refusal that decides.
+pub fn read(bytes: &[u8]) -> Result<Contents, Refusal> {
     let mut numbers = Numbers::new();
-    read_onto(&mut numbers, check, bytes).map(|()| numbers)
+    read_onto(&mut numbers, bytes).map(|opening| Contents { opening, numbers })
 }
 
 /// The numbers that are read before a record is accepted or refused.
 pub fn read_so_far(bytes: &[u8]) -> Numbers {
     let mut numbers = Numbers::new();
-    let _ = read_onto(&mut numbers, check_width, bytes);
+    let _ = read_onto(&mut numbers, bytes);
     numbers
 }
 
-fn read_onto(numbers: &mut Numbers, check: WidthCheck, bytes: &[u8]) -> Result<(), Refusal> {
-    if !bytes.starts_with(&OPENING) {
-        return Err(1);
-    }
-    let mut rest = &bytes[OPENING.len()..];
-    read_sizes(check, &mut rest, numbers)?;
+fn read_onto(numbers: &mut Numbers, bytes: &[u8]) -> Result<Opening, Refusal> {
+    let opening = Opening::of(bytes).ok_or(1_u32)?;
+    let mut rest = &bytes[Opening::LENGTH..];
+    read_sizes(opening, &mut rest, numbers)?;
     let (streams, bits, vectors) = (numbers[0], numbers[1], numbers[2]);
     for _ in 0..vectors {
         read_matrix(&mut rest, numbers, streams)?;
@@ -47,7 +37,7 @@ fn read_onto(numbers: &mut Numbers, check: WidthCheck, bytes: &[u8]) -> Result<(
         read_priors(&mut rest, numbers, streams * bits)?;
     }
     if rest.is_empty() {
-        Ok(())
+        Ok(opening)
     } else {
         Err(13)
     }
@@ -64,15 +54,19 @@ pub fn check_width(streams: i64, bits: i64) -> Result<(), Refusal> {
     Ok(())
 }
 
-/// M, Q, N, C and D.
-fn read_sizes(check: WidthCheck, rest: &mut &[u8], numbers: &mut Numbers) -> Result<(), Refusal> {
+/// M, Q, N, C, then W where the opening has it, and D.
+fn read_sizes(opening: Opening, rest: &mut &[u8], numbers: &mut Numbers) -> Result<(), Refusal> {
     let streams = within(read_plain(rest)?, 1, 4, 4)?;
     numbers.push(streams);
     let bits = read_plain(rest)?;
-    check(streams, bits)?;
+    check_width(streams, bits)?;
     numbers.push(bits);
     numbers.push(within(read_plain(rest)?, 1, 64, 6)?);
-    numbers.push(within(read_plain(rest)?, 0, 16_777_215, 7)?);
+    let clip = within(read_plain(rest)?, 0, 16_777_215, 7)?;
+    numbers.push(clip);
+    if opening.has_weak() {
+        numbers.push(within(read_plain(rest)?, 0, clip, 16)?);
+    }
     numbers.push(within(read_plain(rest)?, streams, 17_043_520, 8)?);
     Ok(())
 }
@@ -117,7 +111,7 @@ fn within(number: i64, least: i64, greatest: i64, refusal: Refusal) -> Result<i6
 
 /// One number taken off the front of `rest`: groups of seven bits, least significant first, the high bit on all but the last.
 /// The fourth group's high bit decides before anything is asked of a fifth byte.
-pub(super) fn read_plain(rest: &mut &[u8]) -> Result<i64, Refusal> {
+pub fn read_plain(rest: &mut &[u8]) -> Result<i64, Refusal> {
     let mut number = 0;
     for group in 0..4 {
         let Some((&byte, after)) = rest.split_first() else {
@@ -140,18 +134,18 @@ fn read_folded(rest: &mut &[u8]) -> Result<i64, Refusal> {
 #[cfg(test)]
 mod tests {
     use super::*;
-    use crate::format::encoding::{encode, plain};
-    use crate::inputs::readings::{listing_numbers, two_streams, LISTING_RECORD};
+    use crate::format::encoding::plain;
+    use crate::inputs::readings::{listing, two_streams, weak_reading, LISTING_RECORD, WEAK_RECORD};
 
     #[test]
     fn the_listing_record_has_the_bench_vector_twice() {
-        assert_eq!(read(&LISTING_RECORD), Ok(listing_numbers()));
-        assert_eq!(encode(&listing_numbers()), LISTING_RECORD);
+        assert_eq!(read(&LISTING_RECORD), Ok(listing()));
+        assert_eq!(listing().record(), LISTING_RECORD);
     }
 
     #[test]
     fn the_bench_edges() {
-        let refusal = |clip: i64, share: i64| read(&encode(&two_streams(clip, share))).err();
+        let refusal = |clip: i64, share: i64| read(&two_streams(clip, share).record()).err();
         assert_eq!(refusal(10, 1), Some(8));
         assert_eq!(refusal(10, 2), None);
         assert_eq!(refusal(16_777_216, 5), Some(7));
@@ -161,17 +155,43 @@ mod tests {
     /// Refusal 15 stands at Q: before anything is asked of N, and after 4 and 5.
     #[test]
     fn eight_bits_with_four_streams() {
-        let sizes = |bytes: &[u8]| read(&[OPENING.as_slice(), bytes].concat());
-        assert_eq!(sizes(&[4, 8]), Err(15));
-        assert_eq!(sizes(&[4, 8, 0]), Err(15));
-        assert_eq!(sizes(&[4, 8, 0x80, 0x00]), Err(15));
-        assert_eq!(sizes(&[4, 9]), Err(5));
-        assert_eq!(sizes(&[4, 7]), Err(5));
-        assert_eq!(sizes(&[5, 8]), Err(4));
-        assert_eq!(sizes(&[4, 0x88]), Err(2));
-        assert_eq!(sizes(&[4, 0x88, 0x00]), Err(3));
-        assert_eq!(sizes(&[3, 8]), Err(2));
-        assert_eq!(sizes(&[3, 8, 0]), Err(6));
+        for opening in Opening::ALL {
+            let sizes = |bytes: &[u8]| read(&[&opening.bytes(), bytes].concat());
+            assert_eq!(sizes(&[4, 8]), Err(15));
+            assert_eq!(sizes(&[4, 8, 0]), Err(15));
+            assert_eq!(sizes(&[4, 8, 0x80, 0x00]), Err(15));
+            assert_eq!(sizes(&[4, 9]), Err(5));
+            assert_eq!(sizes(&[4, 7]), Err(5));
+            assert_eq!(sizes(&[5, 8]), Err(4));
+            assert_eq!(sizes(&[4, 0x88]), Err(2));
+            assert_eq!(sizes(&[4, 0x88, 0x00]), Err(3));
+            assert_eq!(sizes(&[3, 8]), Err(2));
+            assert_eq!(sizes(&[3, 8, 0]), Err(6));
+        }
+    }
+
+    #[test]
+    fn a_record_with_w() {
+        assert_eq!(read(&WEAK_RECORD), Ok(weak_reading()));
+        assert_eq!(weak_reading().record(), WEAK_RECORD);
+    }
+
+    /// Refusal 16 stands between C and D: after 7, which says nothing of W, and before anything is asked of D.
+    #[test]
+    fn the_weak_value_is_0_to_the_clip() {
+        let sizes = |bytes: &[u8]| read(&[&Opening::Two.bytes(), [1, 1, 1].as_slice(), bytes].concat()).err();
+        assert_eq!([0, 1, 4, 5, 6, 7, 127].map(|weak| sizes(&[5, weak])), [2, 2, 2, 2, 16, 16, 16].map(Some));
+        assert_eq!([0, 1].map(|weak| sizes(&[0, weak])), [2, 16].map(Some));
+        assert_eq!(sizes(&[0xFF, 0xFF, 0xFF, 0x07, 0xFF, 0xFF, 0xFF, 0x07]), Some(2));
+        assert_eq!(sizes(&[0xFF, 0xFF, 0xFF, 0x07, 0x80, 0x80, 0x80, 0x08]), Some(16));
+        for after in [&[] as &[u8], &[0x80], &[0x80, 0x00], &[0x00], &[0x81, 0x80, 0x80, 0x08]] {
+            assert_eq!(sizes(&[&[0x80, 0x80, 0x80, 0x08], after].concat()), Some(7), "{after:02X?}");
+            assert_eq!(sizes(&[&[5, 6], after].concat()), Some(16), "{after:02X?}");
+        }
+        assert_eq!(sizes(&[5]), Some(2));
+        assert_eq!(sizes(&[5, 0x85]), Some(2));
+        assert_eq!(sizes(&[5, 0x85, 0x00]), Some(3));
+        assert_eq!(sizes(&[5, 5, 0]), Some(8));
     }
 
     #[test]

@@ -56,11 +56,11 @@ pub fn decode(reply: &[u8]) -> Vec<Answer> {
 #[cfg(test)]
 mod tests {
     use super::*;
-    use crate::inputs::readings::{listing_answers, listing_numbers, LISTING_REPLY};
+    use crate::inputs::readings::{listing, listing_answers, LISTING_REPLY};
 
     #[test]
     fn the_listings_reply_both_ways() {
-        assert_eq!(encode(&Block::of(&listing_numbers()), &listing_answers()), LISTING_REPLY);
+        assert_eq!(encode(&Block::of(&listing()), &listing_answers()), LISTING_REPLY);
         assert_eq!(decode(&LISTING_REPLY), listing_answers());
     }
 }

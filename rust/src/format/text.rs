@@ -1,18 +1,34 @@
 //! A record's numbers as a text, as hosts/record.c prints and reads it.
 
 use super::block::{parts, Block, Vector};
-use super::encoding::Numbers;
+use super::encoding::{Contents, Opening};
 
-/// The numbers of a text: decimal, between blanks and line ends; `#` starts a comment, to the end of its line.
-pub fn numbers_of(text: &str) -> Result<Numbers, String> {
-    let words = text.lines().flat_map(|line| line.split('#').take(1)).flat_map(str::split_whitespace);
-    words.map(|word| word.parse().map_err(|error| format!("{word}: {error}"))).collect()
+/// What a text says: numbers, decimal, between blanks and line ends; `#` starts a comment, to the end of its line. The opening stands
+/// before them, as the word `opening` and its number; where there is none, it is 1.
+pub fn contents_of(text: &str) -> Result<Contents, String> {
+    let words: Vec<&str> = text.lines().flat_map(|line| line.split('#').take(1)).flat_map(str::split_whitespace).collect();
+    let (opening, words) = match words[..] {
+        ["opening"] => return Err("opening: its number is missing".to_string()),
+        ["opening", number, ref others @ ..] => (opening_of(number)?, others),
+        ref others => (Opening::One, others),
+    };
+    let number = |word: &&str| word.parse().map_err(|error| format!("{word}: {error}"));
+    Ok(Contents { opening, numbers: words.iter().map(number).collect::<Result<_, _>>()? })
+}
+
+fn opening_of(word: &str) -> Result<Opening, String> {
+    let number = word.parse().map_err(|error| format!("opening {word}: {error}"))?;
+    Opening::told(number).ok_or_else(|| format!("opening {word}: there is none"))
 }
 
 /// The text that `record -n` (hosts/record.c) prints of a record's numbers.
-pub fn text_of(numbers: &[i64]) -> String {
-    let mut lines = vec![line(&numbers[..5], "M Q N C D")];
-    for (vector, index) in Block::of(numbers).vectors.iter().zip(1..) {
+pub fn text_of(contents: &Contents) -> String {
+    let sizes = &contents.numbers[..contents.opening.sizes().len()];
+    let mut lines = match contents.opening {
+        Opening::One => vec![line(sizes, "M Q N C D")],
+        Opening::Two => vec!["opening 2".to_string(), line(sizes, "M Q N C W D")],
+    };
+    for (vector, index) in Block::of(contents).vectors.iter().zip(1..) {
         lines.push(format!("# vector {index}"));
         lines.extend(vector_lines(vector));
     }
@@ -38,30 +54,56 @@ mod tests {
     use super::*;
     use crate::inputs::samples::all;
 
+    const VECTOR: [i64; 12] = [11, 12, 13, 14, 15, 16, 17, 18, 19, 20, 21, -22];
+
+    const VECTOR_LINES: &str = "\
+# vector 1
+11 12 13   # R, row 1
+14   # R, row 2
+15 16 17 18   # y
+19 20   # priors, stream 1
+21 -22   # priors, stream 2
+";
+
+    fn numbers_of(text: &str) -> Result<(u32, Vec<i64>), String> {
+        contents_of(text).map(|contents| (contents.opening.number(), contents.numbers))
+    }
+
     #[test]
     fn the_text_of_one_vector() {
-        let vector = [11, 12, 13, 14, 15, 16, 17, 18, 19, 20, 21, -22];
-        let text = "2 2 1 10 3   # M Q N C D\n\
-            # vector 1\n\
-            11 12 13   # R, row 1\n\
-            14   # R, row 2\n\
-            15 16 17 18   # y\n\
-            19 20   # priors, stream 1\n\
-            21 -22   # priors, stream 2\n";
-        assert_eq!(text_of(&[[2, 2, 1, 10, 3].as_slice(), &vector].concat()), text);
+        let contents = Contents { opening: Opening::One, numbers: [[2, 2, 1, 10, 3].as_slice(), &VECTOR].concat() };
+        assert_eq!(text_of(&contents), format!("2 2 1 10 3   # M Q N C D\n{VECTOR_LINES}"));
+    }
+
+    #[test]
+    fn the_text_of_one_vector_with_w() {
+        let contents = Contents { opening: Opening::Two, numbers: [[2, 2, 1, 10, 7, 3].as_slice(), &VECTOR].concat() };
+        assert_eq!(text_of(&contents), format!("opening 2\n2 2 1 10 7 3   # M Q N C W D\n{VECTOR_LINES}"));
     }
 
     #[test]
     fn a_text_gives_its_numbers_back() {
-        for (name, numbers) in all() {
-            assert_eq!(numbers_of(&text_of(&numbers)), Ok(numbers), "{name}");
+        for (name, contents) in all() {
+            assert_eq!(contents_of(&text_of(&contents)), Ok(contents), "{name}");
         }
     }
 
     #[test]
     fn a_text_has_words_and_comments() {
-        assert_eq!(numbers_of("1 -2\t+3#4 5\r\n\n # 6\n7"), Ok(vec![1, -2, 3, 7]));
-        assert_eq!(numbers_of("# none"), Ok(vec![]));
+        assert_eq!(numbers_of("1 -2\t+3#4 5\r\n\n # 6\n7"), Ok((1, vec![1, -2, 3, 7])));
+        assert_eq!(numbers_of("# none"), Ok((1, vec![])));
         assert!(numbers_of("1 2x").is_err());
+    }
+
+    #[test]
+    fn a_text_may_say_the_opening() {
+        assert_eq!(numbers_of("opening 2\n1 -2"), Ok((2, vec![1, -2])));
+        assert_eq!(numbers_of(" # W\n opening # which?\n\t2 1"), Ok((2, vec![1])));
+        assert_eq!(numbers_of("opening 1 2"), Ok((1, vec![2])));
+        assert_eq!(numbers_of("opening 2"), Ok((2, vec![])));
+        for text in ["opening", "opening # 2", "opening 0", "opening 3 1", "opening -2", "opening x", "1 opening 2", "opening2 1"]
+        {
+            assert!(numbers_of(text).is_err(), "{text}");
+        }
     }
 }

@@ -3,6 +3,7 @@
 use super::chance::Chance;
 use crate::detectors::plain::point;
 use crate::format::block::{Block, Complex, Vector};
+use crate::format::encoding::Opening;
 
 /// What a channel's entry is about, in units of the record's whole numbers.
 const SCALE: f64 = 150.0;
@@ -26,7 +27,7 @@ impl Plan {
     pub fn block(&self, chance: &mut Chance) -> Block {
         let clip = (self.clip * self.variance()).round().min(16_777_215.0) as i64;
         let vectors = (0..self.vectors).map(|_| self.vector(chance)).collect();
-        Block { streams: self.streams, bits: self.bits, clip, share: self.share, vectors }
+        Block::older(self.streams, self.bits, clip, self.share, vectors)
     }
 
     /// Of the noise, both axes together, in the record's numbers squared.
@@ -118,7 +119,17 @@ pub fn any_block(chance: &mut Chance, streams: usize, bits: usize, vectors: usiz
         _ => chance.between(0, sizes.clip),
     };
     let vectors = (0..vectors).map(|_| any_vector(chance, streams, streams * bits, sizes)).collect();
-    Block { streams, bits, clip, share, vectors }
+    Block::older(streams, bits, clip, share, vectors)
+}
+
+/// An older record's block in a record that opens so; W, where it has one, is by chance.
+pub fn opened(block: Block, opening: Opening, chance: &mut Chance) -> Block {
+    if opening.has_weak() {
+        let weak = chance.within((0, block.clip));
+        block.with_weak(weak)
+    } else {
+        block
+    }
 }
 
 fn any_vector(chance: &mut Chance, streams: usize, label_bits: usize, sizes: Sizes) -> Vector {
@@ -161,8 +172,10 @@ mod tests {
         let mut chance = Chance(2);
         for sizes in [Sizes::TIES, Sizes::PRIORS, Sizes::FULL] {
             for (streams, bits) in SHAPES {
-                let block = any_block(&mut chance, streams, bits, 3, 9, sizes);
-                assert_eq!(Block::read(&block.record()), Ok(block));
+                for opening in Opening::ALL {
+                    let block = opened(any_block(&mut chance, streams, bits, 3, 9, sizes), opening, &mut chance);
+                    assert_eq!(Block::read(&block.record()), Ok(block));
+                }
             }
         }
         for plan in [PLAN, WIDE_PLAN] {

@@ -37,6 +37,7 @@
 
 use super::readings::answer;
 use crate::format::block::Block;
+use crate::format::encoding::{Contents, Opening};
 use crate::format::reply::Answer;
 
 /// The metrics of labels 0 to 7.
@@ -47,24 +48,32 @@ pub fn block(share: i64) -> Block {
     let matrix = [1, 1, 0, 2, 0, 1, -1, 0, 1];
     let received = [-1, 0, 0, 0, 0, 0];
     let priors = [10, 2, 0];
-    Block::of(&[[3, 1, 1, 3, share].as_slice(), &matrix, &received, &priors].concat())
+    let numbers = [[3, 1, 1, 3, share].as_slice(), &matrix, &received, &priors].concat();
+    Block::of(&Contents { opening: Opening::One, numbers })
 }
 
 /// The record with each D that stops its walk, and with the least that does not, and the answer over the leaves above: that
-/// they come in this order is seen at the stops. A bit that has no leaf on one side has 3 or -3.
+/// they come in this order is seen at the stops. A stopped vector's bit with no leaf on one side has C, which is 3, or W, here 0 to 2.
 pub fn cases() -> impl Iterator<Item = (Block, Answer)> {
+    let older = answers(3).into_iter().map(|answer| (block(answer.nodes), answer));
+    let weak = (0..3).flat_map(|weak| answers(weak).map(|answer| (block(answer.nodes).with_weak(weak), answer)));
+    older.chain(weak)
+}
+
+/// The answers by rising D, where a stopped vector has this for an empty side.
+fn answers(empty: i64) -> [Answer; 8] {
     let answers = [
-        (3, 0b000, [3, 3, 3]),
+        (3, 0b000, [empty, empty, empty]),
         // 12 - 10 - 10 is clipped.
-        (4, 0b000, [-3, 3, 3]),
-        (5, 0b000, [-3, 3, 3]),
+        (4, 0b000, [-3, empty, empty]),
+        (5, 0b000, [-3, empty, empty]),
         // 12 - 8 - 10 and 8 - 10 - 2 are clipped.
-        (6, 0b010, [-3, -3, 3]),
-        (7, 0b010, [-3, -3, 3]),
-        (8, 0b010, [-3, -3, 3]),
-        (9, 0b010, [-3, -3, 3]),
+        (6, 0b010, [-3, -3, empty]),
+        (7, 0b010, [-3, -3, empty]),
+        (8, 0b010, [-3, -3, empty]),
+        (9, 0b010, [-3, -3, empty]),
         // 12 - 6 - 10 is clipped; 8 - 6 - 2 and 6 - 8 are not.
         (10, 0b001, [-3, 0, -2]),
     ];
-    answers.into_iter().map(|(nodes, label, values)| (block(nodes), answer(nodes < 10, nodes, label, values)))
+    answers.map(|(nodes, label, values)| answer(nodes < 10, nodes, label, values))
 }

@@ -91,10 +91,15 @@ impl Reception {
         let value = |stream: usize, bit| soft_value(mapping, gain(stream), sent[stream].1, bit).clamp(-clip, clip);
         let all_bits = (0..streams).flat_map(|stream| (0..bits).map(move |bit| (stream, bit)));
         Reception {
-            block: Block { streams, bits, clip, share: 17_043_520, vectors: vec![vector] },
+            block: Block::older(streams, bits, clip, 17_043_520, vec![vector]),
             sent: sent.iter().map(|symbol| symbol.0.as_str()).collect(),
             values: all_bits.map(|(stream, bit)| value(stream, bit)).collect(),
         }
+    }
+
+    /// The same in a record with this W, of which a complete search takes nothing.
+    pub fn with_weak(self, weak: i64) -> Reception {
+        Reception { block: self.block.with_weak(weak), ..self }
     }
 
     /// Holds a detector to the label and the values, and to a complete search; how many nodes it says it walked.

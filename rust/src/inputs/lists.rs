@@ -1,18 +1,19 @@
-//! Lists of numbers that one writer of block records is compared with another on, in groups: every M, Q and N, each number at the ends
-//! of its range and beyond them, lists cut at every length and lists that go on, two faults at once, and noise.
+//! Lists of numbers that one writer of block records is compared with another on, in groups: every opening, M, Q and N, each number at
+//! the ends of its range and beyond them, lists cut at every length and lists that go on, two faults at once, openings that there are
+//! not, and noise.
 
 use super::chance::Chance;
-use super::numbers::{numbers_by, numbers_by_chance, range};
-use super::{lengths, with, Group};
+use super::numbers::{contents_by, contents_by_chance, range};
+use super::{lengths, Group};
 use crate::format::block::SHAPES;
-use crate::format::encoding::{places, Place};
-use crate::format::writer::{made_so_far, narrow};
+use crate::format::encoding::{Contents, Opening, Place};
+use crate::format::writer::{self, made_so_far, narrow};
 
 /// Numbers to try wherever a number can stand, beside the ends of its range: as far off as can be, around 0, the last number of
 /// each length, plain and folded, with the next, and numbers that are 4 in their last 8, 16 or 28 bits.
-const ANYWHERE: [i32; 22] = [
-    i32::MIN,
-    i32::MAX,
+const ANYWHERE: [i64; 22] = [
+    LEAST,
+    GREATEST,
     -1,
     0,
     1,
@@ -35,15 +36,27 @@ const ANYWHERE: [i32; 22] = [
     268_435_460,
 ];
 
-/// A list, and how many bytes of a record it comes to before it is accepted or refused.
+/// The least and the greatest number that a list can have.
+const LEAST: i64 = i32::MIN as i64;
+const GREATEST: i64 = i32::MAX as i64;
+
+/// A list, the opening that is told with it, and how many bytes of a record it comes to before it is accepted or refused.
+#[derive(Debug)]
 pub struct List {
+    pub opening: u32,
     pub numbers: Vec<i32>,
     pub room: usize,
 }
 
 impl List {
-    pub fn of(numbers: Vec<i32>) -> List {
-        List { room: made_so_far(&numbers).len(), numbers }
+    /// Any numbers, right or wrong.
+    pub fn of(contents: Contents) -> List {
+        List::told(contents.opening.number(), narrow(contents.numbers))
+    }
+
+    /// The same with any number for the opening.
+    pub fn told(opening: u32, numbers: Vec<i32>) -> List {
+        List { opening, room: made_so_far(opening, &numbers).len(), numbers }
     }
 
     /// Buffers to try.
@@ -52,38 +65,40 @@ impl List {
     }
 }
 
+/// What `writer` makes of a list.
+pub fn write(list: &List, record: &mut [u8]) -> i64 {
+    writer::write(list.opening, &list.numbers, record)
+}
+
 // Lists that others start from.
 
-/// A list of each M and Q with this N, all other numbers in range.
-fn right(vectors: i64) -> impl Iterator<Item = Vec<i32>> {
+/// A list of each opening, M and Q with this N, all other numbers in range.
+fn right(vectors: i64) -> impl Iterator<Item = Contents> {
     let mut chance = Chance(vectors as u64);
-    SHAPES.into_iter().map(move |(streams, bits)| narrow(numbers_by_chance(&mut chance, streams as i64, bits as i64, vectors)))
+    let shapes = Opening::ALL.into_iter().flat_map(|opening| SHAPES.map(|shape| (opening, shape)));
+    shapes.map(move |(opening, (streams, bits))| contents_by_chance(&mut chance, opening, (streams as i64, bits as i64, vectors)))
 }
 
-/// A list whose numbers, but for M, Q and N, are chosen by their range's two ends.
-fn by_range(streams: usize, bits: usize, vectors: i64, mut choose: impl FnMut(i64, i64) -> i64) -> Vec<i32> {
-    let (streams, bits) = (streams as i64, bits as i64);
-    narrow(numbers_by(streams, bits, vectors, |place| {
-        let (least, greatest) = range(place, streams);
-        choose(least, greatest)
-    }))
+/// The first numbers of a list, as many as `length`.
+fn cut(contents: &Contents, length: usize) -> Contents {
+    Contents { opening: contents.opening, numbers: contents.numbers[..length].to_vec() }
 }
 
-/// The places of a list whose M, Q and N are right.
-fn places_of(numbers: &[i32]) -> Vec<Place> {
-    places(numbers[0].into(), numbers[1].into(), numbers[2].into())
+/// A list that goes on.
+fn longer(contents: &Contents, more: &[i64]) -> Contents {
+    Contents { opening: contents.opening, numbers: [&contents.numbers, more].concat() }
 }
 
 /// The two numbers next to a place's range, below it and above it.
-fn next_to_range(numbers: &[i32], place: Place) -> [i32; 2] {
-    let (least, greatest) = range(place, numbers[0].into());
-    [least as i32 - 1, greatest as i32 + 1]
+fn next_to_range(contents: &Contents, place: Place) -> [i64; 2] {
+    let (least, greatest) = range(place, &contents.numbers);
+    [least - 1, greatest + 1]
 }
 
 /// A number that is out of range at this place: next to an end, or as far off as can be.
-fn beyond(chance: &mut Chance, numbers: &[i32], place: Place) -> i32 {
-    let [below, above] = next_to_range(numbers, place);
-    chance.one_of(&[below, above, i32::MIN, i32::MAX])
+fn beyond(chance: &mut Chance, contents: &Contents, place: Place) -> i64 {
+    let [below, above] = next_to_range(contents, place);
+    chance.one_of(&[below, above, LEAST, GREATEST])
 }
 
 // The groups.
@@ -91,52 +106,86 @@ fn beyond(chance: &mut Chance, numbers: &[i32], place: Place) -> i32 {
 /// M from -1 to 6 with Q from -1 to 10, and with larger ones that are 4 or 8 in their last 7, 8 or 16 bits.
 pub fn pairs_of_sizes() -> impl Iterator<Item = List> {
     let mut chance = Chance(21);
-    let streams = (-1..=6).chain([132, 260, 65_540, -252, i32::MIN + 4]);
-    let bits = (-1..=10).chain([136, 264, 65_544, -248, i32::MIN + 8]);
+    let streams = (-1..=6).chain([132, 260, 65_540, -252, LEAST + 4]);
+    let bits = (-1..=10).chain([136, 264, 65_544, -248, LEAST + 8]);
     let pairs = streams.flat_map(move |streams| bits.clone().map(move |bits| (streams, bits)));
-    pairs.flat_map(move |(streams, bits)| of_sizes(&mut chance, streams, bits)).map(List::of)
+    let sizes = Opening::ALL.into_iter().flat_map(move |opening| pairs.clone().map(move |pair| (opening, pair)));
+    sizes.flat_map(move |(opening, (streams, bits))| of_sizes(&mut chance, opening, streams, bits)).map(List::of)
 }
 
 /// Ten lists of this M and Q: five end right after Q or after an N; the others go on as a right one does, or would with a nearer M
 /// and Q, whole, cut by a number, and with one too many.
-fn of_sizes(chance: &mut Chance, streams: i32, bits: i32) -> Vec<Vec<i32>> {
-    let ends: [&[i32]; 5] = [&[], &[1], &[0], &[65], &[1, -1]];
-    let mut all: Vec<Vec<i32>> = ends.iter().map(|end| [&[streams, bits], *end].concat()).collect();
+fn of_sizes(chance: &mut Chance, opening: Opening, streams: i64, bits: i64) -> Vec<Contents> {
+    let ends: [&[i64]; 5] = [&[], &[1], &[0], &[65], &[1, -1]];
+    let ended = |end: &&[i64]| Contents { opening, numbers: [&[streams, bits], *end].concat() };
+    let mut all: Vec<Contents> = ends.iter().map(ended).collect();
     let mut whole = |vectors: i64| {
-        let numbers = narrow(numbers_by_chance(chance, streams.clamp(1, 6).into(), bits.clamp(0, 10).into(), vectors));
-        [&[streams, bits], &numbers[2..]].concat()
+        contents_by_chance(chance, opening, (streams.clamp(1, 6), bits.clamp(0, 10), vectors)).with(0, streams).with(1, bits)
     };
     let (one, two) = (whole(1), whole(2));
-    all.extend([one[..one.len() - 1].to_vec(), [one.as_slice(), &[0]].concat(), one, two, whole(3)]);
+    all.extend([cut(&one, one.numbers.len() - 1), longer(&one, &[0]), one, two, whole(3)]);
     all
 }
 
 /// Each M and Q with an N that is out of its range, that is larger or smaller than the vectors that follow, or that is 1 in its
 /// last 8 or 16 bits.
 pub fn counts_of_vectors() -> impl Iterator<Item = List> {
-    let others = [i32::MIN, i32::MIN + 1, -255, -64, -1, 0, 1, 2, 3, 63, 64, 65, 66, 127, 128, 129, 257, 65_537, i32::MAX];
-    let few = (0..=2).flat_map(right).flat_map(move |numbers| others.map(|vectors| with(&numbers, 2, vectors)));
-    let many = (63..=65).flat_map(right).flat_map(|numbers| [63, 64, 65].map(|vectors| with(&numbers, 2, vectors)));
+    let others = [LEAST, LEAST + 1, -255, -64, -1, 0, 1, 2, 3, 63, 64, 65, 66, 127, 128, 129, 257, 65_537, GREATEST];
+    let few = (0..=2).flat_map(right).flat_map(move |list| others.map(|vectors| list.with(2, vectors)));
+    let many = (63..=65).flat_map(right).flat_map(|list| [63, 64, 65].map(|vectors| list.with(2, vectors)));
     few.chain(many).map(List::of)
 }
 
 /// Each M and Q with D around M, around its greatest, and far off.
 pub fn shares() -> impl Iterator<Item = List> {
-    let around = |streams: i32| [0, 1, 2, 3, 4, 5, streams - 1, streams, streams + 1];
-    let far = [i32::MIN, -17_043_520, -4, -1, 17_043_519, 17_043_520, 17_043_521, 34_087_040, i32::MAX];
-    let shares = move |streams: i32| around(streams).into_iter().chain(far);
-    right(1).flat_map(move |numbers| shares(numbers[0]).map(move |share| List::of(with(&numbers, 4, share))))
+    let around = |streams: i64| [0, 1, 2, 3, 4, 5, streams - 1, streams, streams + 1];
+    let far = [LEAST, -17_043_520, -4, -1, 17_043_519, 17_043_520, 17_043_521, 34_087_040, GREATEST];
+    right(1).flat_map(move |list| {
+        let at = list.opening.sizes().len() - 1;
+        around(list.numbers[0]).into_iter().chain(far).map(move |share| List::of(list.with(at, share)))
+    })
+}
+
+/// Each M and Q with W around 0, around C, around C's greatest, and far off, for C at the ends of its range and between.
+pub fn weak_values() -> impl Iterator<Item = List> {
+    let far = [LEAST, -16_777_215, -1, 0, 1, 16_777_214, 16_777_215, 16_777_216, GREATEST];
+    let around = |clip: i64| [-clip, clip - 1, clip, clip + 1, clip + 128, clip + 256, clip + 65_536];
+    let lists = right(1).filter(|list| list.opening.has_weak());
+    let by_clip = lists.flat_map(|list| [0, 1, 200, 16_777_214, 16_777_215].map(|clip| (list.with(3, clip), clip)));
+    by_clip.flat_map(move |(list, clip)| far.into_iter().chain(around(clip)).map(move |weak| List::of(list.with(4, weak))))
+}
+
+/// Right lists, right but for one number or for their end, and the empty one, with a number that tells no opening: 0, the next ones, the
+/// openings' last bytes, numbers that are 1 or 2 in their last 8, 16 or 31 bits, and the greatest.
+pub fn unknown_openings() -> impl Iterator<Item = List> {
+    let mut chance = Chance(26);
+    let openings = [0, 3, 4, 5, 0x31, 0x32, 257, 258, 65_537, 65_538, 0x8000_0001, 0x8000_0002, u32::MAX - 1, u32::MAX];
+    let lists = right(1).chain(right(2)).flat_map(move |list| {
+        let places = list.places();
+        let at = chance.between(0, places.len() as i64 - 1) as usize;
+        let faulty = list.with(at, beyond(&mut chance, &list, places[at]));
+        [cut(&list, 0), cut(&list, at), longer(&list, &[0]), faulty, list].map(|list| narrow(list.numbers))
+    });
+    lists.flat_map(move |numbers| openings.map(|opening| List::told(opening, numbers.clone())))
+}
+
+/// Right lists of one opening told with another.
+pub fn other_openings() -> impl Iterator<Item = List> {
+    (1..=4).flat_map(right).flat_map(|list| {
+        let others = Opening::ALL.into_iter().filter(move |&opening| opening != list.opening);
+        others.map(move |opening| List::of(Contents { opening, numbers: list.numbers.clone() }))
+    })
 }
 
 /// Each number of a list of each M and Q and two vectors, in turn: at both ends of its range, one beyond each, and numbers to try
 /// anywhere.
 pub fn each_number_in_turn() -> impl Iterator<Item = List> {
-    right(2).flat_map(|numbers| {
-        let turns = places_of(&numbers).into_iter().enumerate();
+    right(2).flat_map(|list| {
+        let turns = list.places().into_iter().enumerate();
         turns.flat_map(move |(at, place)| {
-            let [below, above] = next_to_range(&numbers, place);
-            let tried: Vec<i32> = [below, below + 1, above - 1, above].into_iter().chain(ANYWHERE).collect();
-            tried.into_iter().map(|number| List::of(with(&numbers, at, number))).collect::<Vec<_>>()
+            let [below, above] = next_to_range(&list, place);
+            let tried = [below, below + 1, above - 1, above].into_iter().chain(ANYWHERE);
+            tried.map(|number| List::of(list.with(at, number))).collect::<Vec<_>>()
         })
     })
 }
@@ -144,12 +193,11 @@ pub fn each_number_in_turn() -> impl Iterator<Item = List> {
 /// Each number that has no sign, in turn, made negative in some ways: with the same magnitude, and with the same last 31, 16 or 8
 /// bits.
 pub fn negative_numbers() -> impl Iterator<Item = List> {
-    right(2).flat_map(|numbers| {
-        let turns = places_of(&numbers).into_iter().enumerate().filter(|(_, place)| !place.is_folded());
+    right(2).flat_map(|list| {
+        let turns = list.places().into_iter().enumerate().filter(|(_, place)| !place.is_folded());
         turns.flat_map(move |(at, _)| {
-            let number = numbers[at];
-            let negative = [-number, number.wrapping_add(i32::MIN), number | -65_536, number | -256];
-            negative.map(|other| List::of(with(&numbers, at, other)))
+            let number = list.numbers[at];
+            [-number, number + LEAST, number | -65_536, number | -256].map(|other| List::of(list.with(at, other)))
         })
     })
 }
@@ -157,12 +205,12 @@ pub fn negative_numbers() -> impl Iterator<Item = List> {
 /// Two numbers out of range, at each pair of places of a list of each M and Q.
 pub fn two_faults() -> impl Iterator<Item = List> {
     let mut chance = Chance(22);
-    right(1).flat_map(move |numbers| {
-        let places = places_of(&numbers);
+    right(1).flat_map(move |list| {
+        let places = list.places();
         let pairs = (0..places.len()).flat_map(|later| (0..later).map(move |earlier| (earlier, later)));
         let faulty = |(earlier, later): (usize, usize)| {
-            let one = with(&numbers, earlier, beyond(&mut chance, &numbers, places[earlier]));
-            List::of(with(&one, later, beyond(&mut chance, &numbers, places[later])))
+            let one = list.with(earlier, beyond(&mut chance, &list, places[earlier]));
+            List::of(one.with(later, beyond(&mut chance, &list, places[later])))
         };
         pairs.map(faulty).collect::<Vec<_>>()
     })
@@ -172,25 +220,27 @@ pub fn two_faults() -> impl Iterator<Item = List> {
 /// in which nothing behind it is right.
 pub fn a_fault_and_an_end() -> impl Iterator<Item = List> {
     let mut chance = Chance(23);
-    right(1).chain(right(2)).flat_map(move |numbers| {
-        let places = places_of(&numbers);
+    right(1).chain(right(2)).flat_map(move |list| {
+        let places = list.places();
+        let count = places.len();
         let faulty = |at: usize| {
-            let one = with(&numbers, at, beyond(&mut chance, &numbers, places[at]));
-            let length = chance.between(at as i64 + 1, one.len() as i64) as usize;
-            let nothing_right = [&one[..=at], &vec![i32::MIN; one.len() - at]].concat();
-            [one[..=at].to_vec(), one[..length].to_vec(), [one.as_slice(), &[0]].concat(), nothing_right].map(List::of)
+            let one = list.with(at, beyond(&mut chance, &list, places[at]));
+            let length = chance.between(at as i64 + 1, count as i64) as usize;
+            let nothing_right = longer(&cut(&one, at + 1), &vec![LEAST; count - at]);
+            [cut(&one, at + 1), cut(&one, length), longer(&one, &[0]), nothing_right].map(List::of)
         };
-        (0..places.len()).flat_map(faulty).collect::<Vec<_>>()
+        (0..count).flat_map(faulty).collect::<Vec<_>>()
     })
 }
 
 /// Lists that go on behind the last number, by one or by several; whatever follows, it is not ranged.
 pub fn too_long() -> impl Iterator<Item = List> {
-    let more: [&[i32]; 8] = [&[0], &[1], &[-1], &[i32::MIN], &[i32::MAX], &[0; 7], &[i32::MIN; 3], &[i32::MAX, 1, 2, 3]];
-    [1, 2, 64].into_iter().flat_map(right).flat_map(move |numbers| {
-        let again: [&[i32]; 3] = [&numbers, &numbers[5..], &numbers[numbers.len() - 1..]];
-        let longer = |more: &[i32]| List::of([numbers.as_slice(), more].concat());
-        more.into_iter().chain(again).map(longer).collect::<Vec<_>>()
+    let more: [&[i64]; 8] = [&[0], &[1], &[-1], &[LEAST], &[GREATEST], &[0; 7], &[LEAST; 3], &[GREATEST, 1, 2, 3]];
+    [1, 2, 64].into_iter().flat_map(right).flat_map(move |list| {
+        let numbers = &list.numbers;
+        let vectors = &numbers[list.opening.sizes().len()..];
+        let again: [&[i64]; 3] = [numbers, vectors, &numbers[numbers.len() - 1..]];
+        more.into_iter().chain(again).map(|more| List::of(longer(&list, more))).collect::<Vec<_>>()
     })
 }
 
@@ -198,28 +248,34 @@ pub fn too_long() -> impl Iterator<Item = List> {
 /// lengthened.
 pub fn noise() -> impl Iterator<Item = List> {
     let mut chance = Chance(24);
-    (0..12_000).map(move |turn| {
+    let turns = Opening::ALL.into_iter().flat_map(|opening| (0..12_000).map(move |turn| (opening, turn)));
+    turns.map(move |(opening, turn)| {
         let length = chance.between(0, 40);
-        List::of(match turn % 6 {
-            0 => (0..length).map(|_| chance.draw() as i32).collect(),
-            1 => (0..length).map(|_| chance.between(-2, 9) as i32).collect(),
-            _ => damaged(&mut chance),
-        })
+        let numbers = match turn % 6 {
+            0 => (0..length).map(|_| any_number(&mut chance)).collect(),
+            1 => (0..length).map(|_| chance.between(-2, 9)).collect(),
+            _ => damaged(&mut chance, opening),
+        };
+        List::of(Contents { opening, numbers })
     })
 }
 
-fn damaged(chance: &mut Chance) -> Vec<i32> {
+fn any_number(chance: &mut Chance) -> i64 {
+    i64::from(chance.draw() as i32)
+}
+
+fn damaged(chance: &mut Chance, opening: Opening) -> Vec<i64> {
     let (streams, bits) = chance.one_of(&SHAPES);
     let vectors = chance.between(1, 3);
-    let mut numbers = narrow(numbers_by_chance(chance, streams as i64, bits as i64, vectors));
+    let mut numbers = contents_by_chance(chance, opening, (streams as i64, bits as i64, vectors)).numbers;
     let last = numbers.len() as i64 - 1;
     for _ in 0..chance.between(0, 3) {
         let shift = chance.between(0, 31);
-        numbers[chance.between(0, last) as usize] = (chance.draw() as i32) >> shift;
+        numbers[chance.between(0, last) as usize] = any_number(chance) >> shift;
     }
     match chance.draw() % 4 {
         0 => numbers.truncate(chance.between(0, last) as usize),
-        1 => numbers.extend((0..chance.between(1, 3)).map(|_| chance.draw() as i32)),
+        1 => numbers.extend((0..chance.between(1, 3)).map(|_| any_number(chance))),
         _ => (),
     }
     numbers
@@ -234,39 +290,42 @@ pub fn whole() -> impl Iterator<Item = List> {
 /// chance.
 pub fn ends() -> impl Iterator<Item = List> {
     let mut chance = Chance(25);
-    let sizes = [1, 64].into_iter().flat_map(|vectors| SHAPES.map(|(streams, bits)| (streams, bits, vectors)));
-    let lists = sizes.flat_map(move |(streams, bits, vectors)| {
-        let mut list = |choose: fn(&mut Chance, i64, i64) -> i64| {
-            by_range(streams, bits, vectors, |least, greatest| choose(&mut chance, least, greatest))
-        };
-        let either = |chance: &mut Chance, least, greatest| chance.one_of(&[least, greatest]);
-        [list(|_, least, _| least), list(|_, _, greatest| greatest), list(either), list(either)]
+    let counts = [1, 64].into_iter().flat_map(|vectors| SHAPES.map(|(streams, bits)| (streams as i64, bits as i64, vectors)));
+    let sizes = Opening::ALL.into_iter().flat_map(move |opening| counts.clone().map(move |counts| (opening, counts)));
+    let lists = sizes.flat_map(move |(opening, counts)| {
+        let mut list =
+            |choose: fn(&mut Chance, (i64, i64)) -> i64| contents_by(opening, counts, |_, range| choose(&mut chance, range));
+        let either = |chance: &mut Chance, (least, greatest)| chance.one_of(&[least, greatest]);
+        [list(|_, (least, _)| least), list(|_, (_, greatest)| greatest), list(either), list(either)]
     });
     lists.map(List::of)
 }
 
 /// Lists of each M and Q, and the longest of all, cut at every length, whole at last.
 pub fn cut_at_each_length() -> impl Iterator<Item = List> {
-    let longest = by_range(4, 6, 64, |_, greatest| greatest);
-    let lists = right(1).chain(right(2)).chain([longest]);
-    lists.flat_map(|numbers| (0..=numbers.len()).map(move |length| List::of(numbers[..length].to_vec())))
+    let longest = Opening::ALL.map(|opening| contents_by(opening, (4, 6, 64), |_, (_, greatest)| greatest));
+    let lists = right(1).chain(right(2)).chain(longest);
+    lists.flat_map(|list| (0..=list.numbers.len()).map(move |length| List::of(cut(&list, length))))
 }
 
 /// The groups, the shorter lists first.
 pub fn groups() -> Vec<Group<List>> {
     vec![
-        Group::of("pairs of sizes", (2_210, 57), pairs_of_sizes()),
-        Group::of("shares", (342, 144), shares()),
-        Group::of("each number in turn", (23_478, 13_708), each_number_in_turn()),
-        Group::of("negative numbers", (748, 3), negative_numbers()),
-        Group::of("two faults", (7_800, 0), two_faults()),
-        Group::of("a fault and an end", (5_608, 0), a_fault_and_an_end()),
-        Group::of("noise", (12_000, 1_840), noise()),
-        Group::of("too long", (627, 0), too_long()),
-        Group::of("whole", (1_216, 1_216), whole()),
-        Group::of("ends of ranges", (152, 152), ends()),
-        Group::of("counts of vectors", (1_254, 76), counts_of_vectors()),
-        Group::of("cut at each length", (4_518, 39), cut_at_each_length()),
+        Group::of("pairs of sizes", (4_420, 114), pairs_of_sizes()),
+        Group::of("shares", (684, 288), shares()),
+        Group::of("weak values", (1_520, 418), weak_values()),
+        Group::of("unknown openings", (5_320, 0), unknown_openings()),
+        Group::of("other openings", (152, 0), other_openings()),
+        Group::of("each number in turn", (47_450, 27_498), each_number_in_turn()),
+        Group::of("negative numbers", (1_572, 10), negative_numbers()),
+        Group::of("two faults", (16_099, 0), two_faults()),
+        Group::of("a fault and an end", (11_368, 0), a_fault_and_an_end()),
+        Group::of("noise", (24_000, 3_644), noise()),
+        Group::of("too long", (1_254, 0), too_long()),
+        Group::of("whole", (2_432, 2_432), whole()),
+        Group::of("ends of ranges", (304, 304), ends()),
+        Group::of("counts of vectors", (2_508, 152), counts_of_vectors()),
+        Group::of("cut at each length", (9_075, 78), cut_at_each_length()),
     ]
 }
 
@@ -279,13 +338,12 @@ pub fn all() -> impl Iterator<Item = List> {
 mod tests {
     use super::*;
     use crate::format::record::{Refusal, MOST_BYTES};
-    use crate::format::writer::write;
     use crate::inputs::numbers::row;
     use std::collections::BTreeMap;
 
     /// What a list is answered with, the buffer being long enough: a refusal's number, or 0 for acceptance.
     fn answer(list: &List) -> Refusal {
-        let returned = write(&list.numbers, &mut [0; MOST_BYTES]);
+        let returned = write(list, &mut [0; MOST_BYTES]);
         u32::try_from(-returned).unwrap_or(0)
     }
 
@@ -300,42 +358,44 @@ mod tests {
 
     /// The places of the lists that groups start from, list by list.
     fn places_by_list(vectors: i64) -> impl Iterator<Item = Vec<Place>> {
-        right(vectors).map(|numbers| places_of(&numbers))
+        right(vectors).map(|list| list.places())
     }
 
     #[test]
     fn every_answer_is_reached() {
         let counts = answers(all());
         let reached: Vec<Refusal> = counts.keys().copied().collect();
-        assert_eq!(reached, [0, 2, 4, 5, 6, 7, 8, 9, 10, 11, 12, 13, 15]);
-        assert_eq!(counts.values().sum::<usize>(), 59_953);
+        assert_eq!(reached, [0, 1, 2, 4, 5, 6, 7, 8, 9, 10, 11, 12, 13, 15, 16]);
+        assert_eq!(counts.values().sum::<usize>(), 128_158);
         assert!(counts.values().all(|&count| count > 30), "{counts:?}");
     }
 
-    /// Noise alone reaches every answer too.
+    /// Noise alone, which has right openings, reaches every other answer too.
     #[test]
     fn every_answer_is_reached_by_chance() {
         let reached: Vec<Refusal> = answers(noise()).into_keys().collect();
-        assert_eq!(reached, [0, 2, 4, 5, 6, 7, 8, 9, 10, 11, 12, 13, 15]);
+        assert_eq!(reached, [0, 2, 4, 5, 6, 7, 8, 9, 10, 11, 12, 13, 15, 16]);
     }
 
     #[test]
     fn groups_with_few_answers() {
-        assert_eq!(answers(whole()), BTreeMap::from([(0, 1_216)]));
-        assert_eq!(answers(ends()), BTreeMap::from([(0, 152)]));
-        assert_eq!(answers(too_long()), BTreeMap::from([(13, 627)]));
-        assert_eq!(answers(cut_at_each_length()), BTreeMap::from([(0, 39), (2, 4_479)]));
-        assert_eq!(answers(shares()), BTreeMap::from([(0, 144), (8, 198)]));
-        assert_eq!(answers(counts_of_vectors()), BTreeMap::from([(0, 76), (2, 247), (6, 855), (13, 76)]));
+        assert_eq!(answers(whole()), BTreeMap::from([(0, 2_432)]));
+        assert_eq!(answers(ends()), BTreeMap::from([(0, 304)]));
+        assert_eq!(answers(too_long()), BTreeMap::from([(13, 1_254)]));
+        assert_eq!(answers(cut_at_each_length()), BTreeMap::from([(0, 78), (2, 8_997)]));
+        assert_eq!(answers(shares()), BTreeMap::from([(0, 288), (8, 396)]));
+        assert_eq!(answers(unknown_openings()), BTreeMap::from([(1, 5_320)]));
+        assert_eq!(answers(weak_values()), BTreeMap::from([(0, 418), (16, 1_102)]));
+        assert_eq!(answers(counts_of_vectors()), BTreeMap::from([(0, 152), (2, 494), (6, 1_710), (13, 152)]));
     }
 
-    /// Three lists for each pair that a record may have; four streams of eight bits are always refused by 15.
+    /// Three lists of each opening for each pair that a record may have; four streams of eight bits are always refused by 15.
     #[test]
     fn the_pairs_of_sizes_that_are_accepted() {
         let counts = answers(pairs_of_sizes());
-        assert_eq!((counts[&0], counts[&15]), (3 * SHAPES.len(), 10));
+        assert_eq!((counts[&0], counts[&15]), (6 * SHAPES.len(), 20));
         let of_four_wide = pairs_of_sizes().filter(|list| list.numbers[..2] == [4, 8]);
-        assert_eq!(answers(of_four_wide), BTreeMap::from([(15, 10)]));
+        assert_eq!(answers(of_four_wide), BTreeMap::from([(15, 20)]));
     }
 
     #[test]
@@ -352,15 +412,29 @@ mod tests {
         assert_eq!(a_fault_and_an_end().map(|list| answer(&list)).collect::<Vec<_>>(), expected);
     }
 
-    /// Within its range a number is accepted, beyond it refused by its row of the table; M, Q and N are tried elsewhere.
+    /// Within its range a number is accepted, beyond it refused by its row of the table; a smaller C can leave W beyond its own range.
+    /// M, Q and N are tried elsewhere.
     #[test]
     fn a_number_in_turn_is_accepted_or_has_its_row() {
-        let places = |places: Vec<Place>| places.into_iter().enumerate();
+        let places = |places: Vec<Place>| (0..places.len()).map(move |at| (at, places.clone()));
         let turns = places_by_list(2).flat_map(places).flat_map(|turn| vec![turn; 4 + ANYWHERE.len()]);
-        for (list, (at, place)) in each_number_in_turn().zip(turns).filter(|(_, (at, _))| *at >= 3) {
-            let (least, greatest) = range(place, list.numbers[0].into());
-            let is_right = (least..=greatest).contains(&list.numbers[at].into());
-            assert_eq!(answer(&list), if is_right { 0 } else { row(place) }, "{place:?}: {:?}", list.numbers);
+        for (list, (_, places)) in each_number_in_turn().zip(turns).filter(|(_, (at, _))| *at >= 3) {
+            let numbers: Vec<i64> = list.numbers.iter().copied().map(i64::from).collect();
+            let is_wrong = |&at: &usize| {
+                let (least, greatest) = range(places[at], &numbers);
+                at > 2 && !(least..=greatest).contains(&numbers[at])
+            };
+            let expected = (0..places.len()).find(is_wrong).map_or(0, |at| row(places[at]));
+            assert_eq!(answer(&list), expected, "{list:?}");
+        }
+    }
+
+    /// W is accepted from 0 to C.
+    #[test]
+    fn weak_values_are_accepted_or_refused_by_16() {
+        for list in weak_values() {
+            let is_right = (0..=list.numbers[3]).contains(&list.numbers[4]);
+            assert_eq!(answer(&list), if is_right { 0 } else { 16 }, "{list:?}");
         }
     }
 
@@ -369,8 +443,8 @@ mod tests {
         let mut longest = 0;
         for list in whole().chain(ends()) {
             let mut record = vec![0; list.room];
-            assert_eq!(write(&list.numbers, &mut record), list.room as i64);
-            assert_eq!(write(&list.numbers, &mut record[1..]), -14);
+            assert_eq!(write(&list, &mut record), list.room as i64);
+            assert_eq!(write(&list, &mut record[1..]), -14);
             longest = longest.max(list.room);
         }
         assert_eq!(longest, MOST_BYTES);

@@ -2,17 +2,18 @@
 //! chosen place by place.
 
 use super::chance::Chance;
-use crate::format::encoding::{places, Numbers, Place};
+use crate::format::encoding::{Contents, Numbers, Opening, Place};
 use crate::format::record::Refusal;
 
-/// The range of a number, by document 01. Q has gaps in its range.
-pub fn range(place: Place, streams: i64) -> (i64, i64) {
+/// The range of a number, by documents 01 and 02; M and C are among the numbers before it, where they count. Q has gaps in its range.
+pub fn range(place: Place, before: &[i64]) -> (i64, i64) {
     match place {
         Place::Streams => (1, 4),
         Place::Bits => (1, 8),
         Place::Vectors => (1, 64),
         Place::Clip => (0, 16_777_215),
-        Place::Share => (streams, 17_043_520),
+        Place::Weak => (0, before[3]),
+        Place::Share => (before[0], 17_043_520),
         Place::Diagonal => (1, 2_047),
         Place::Right => (-2_047, 2_047),
         Place::Received => (-131_071, 131_071),
@@ -27,6 +28,7 @@ pub fn row(place: Place) -> Refusal {
         Place::Bits => 5,
         Place::Vectors => 6,
         Place::Clip => 7,
+        Place::Weak => 16,
         Place::Share => 8,
         Place::Diagonal => 9,
         Place::Right => 10,
@@ -35,18 +37,25 @@ pub fn row(place: Place) -> Refusal {
     }
 }
 
-/// A record's numbers: this M, Q and N, and for each other place what is chosen.
-pub fn numbers_by(streams: i64, bits: i64, vectors: i64, mut choose: impl FnMut(Place) -> i64) -> Numbers {
-    let number = |place: Place| match place {
-        Place::Streams => streams,
-        Place::Bits => bits,
-        Place::Vectors => vectors,
-        other => choose(other),
-    };
-    places(streams, bits, vectors).into_iter().map(number).collect()
+/// M, Q and N.
+pub type Counts = (i64, i64, i64);
+
+/// A record of this M, Q and N; each other number is chosen by its place and its range.
+pub fn contents_by(opening: Opening, counts: Counts, mut choose: impl FnMut(Place, (i64, i64)) -> i64) -> Contents {
+    let (streams, bits, vectors) = counts;
+    let mut numbers = Numbers::new();
+    for place in opening.places(streams, bits, vectors) {
+        numbers.push(match place {
+            Place::Streams => streams,
+            Place::Bits => bits,
+            Place::Vectors => vectors,
+            other => choose(other, range(other, &numbers)),
+        });
+    }
+    Contents { opening, numbers }
 }
 
-/// A record's numbers by chance, all in range.
-pub fn numbers_by_chance(chance: &mut Chance, streams: i64, bits: i64, vectors: i64) -> Numbers {
-    numbers_by(streams, bits, vectors, |place| chance.within(range(place, streams)))
+/// A record by chance, all its numbers in range.
+pub fn contents_by_chance(chance: &mut Chance, opening: Opening, counts: Counts) -> Contents {
+    contents_by(opening, counts, |_, range| chance.within(range))
 }

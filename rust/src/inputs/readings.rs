@@ -1,54 +1,109 @@
-//! Document 01's bench readings and its listing: the records, and what they are answered with.
+//! Document 01's bench readings and its listing, and readings of the same vectors with document 02's W: the records, and what they are
+//! answered with.
 
-use crate::format::encoding::Numbers;
+use crate::format::block::Block;
+use crate::format::encoding::{Contents, Opening};
 use crate::format::reply::Answer;
 
 /// The vector of two streams: R rows (1, 1), (0, 1), y = (1, -1), priors 0.
 const TWO_STREAMS: [i64; 10] = [1, 1, 0, 1, 1, 0, -1, 0, 0, 0];
 
-/// A record's numbers, and the answer to its one vector.
+/// A record, and the answers to its vectors.
 pub struct Reading {
-    pub numbers: Numbers,
-    pub answer: Answer,
+    pub contents: Contents,
+    pub answers: Vec<Answer>,
 }
 
 /// M = 1, Q = 1, N = 1, R = 1.
-pub fn one_stream(received: i64, prior: i64, clip: i64, share: i64) -> Numbers {
-    vec![1, 1, 1, clip, share, 1, received, 0, prior]
+pub fn one_stream(received: i64, prior: i64, clip: i64, share: i64) -> Contents {
+    older(vec![1, 1, 1, clip, share, 1, received, 0, prior])
 }
 
 /// M = 2, Q = 1, N = 1.
-pub fn two_streams(clip: i64, share: i64) -> Numbers {
-    [[2, 1, 1, clip, share].as_slice(), &TWO_STREAMS].concat()
+pub fn two_streams(clip: i64, share: i64) -> Contents {
+    older([[2, 1, 1, clip, share].as_slice(), &TWO_STREAMS].concat())
+}
+
+fn older(numbers: Vec<i64>) -> Contents {
+    Contents { opening: Opening::One, numbers }
 }
 
 /// The ten starred readings.
 pub fn starred() -> [Reading; 10] {
     [
-        reading(one_stream(2, 0, 5, 2), answer(false, 1, 1, [-5])),
-        reading(one_stream(2, 0, 8, 2), answer(false, 1, 1, [-8])),
-        reading(one_stream(2, 0, 9, 2), answer(false, 2, 1, [-8])),
-        reading(one_stream(0, 0, 5, 2), answer(false, 2, 0, [0])),
-        reading(one_stream(2, 10, 5, 2), answer(false, 2, 0, [-5])),
-        reading(one_stream(2, 10, 5, 1), answer(true, 1, 0, [5])),
-        reading(two_streams(10, 5), answer(false, 5, 2, [-4, 4])),
-        reading(two_streams(10, 4), answer(true, 4, 2, [-8, 10])),
-        reading(two_streams(3, 5), answer(false, 2, 2, [-3, 3])),
-        reading(two_streams(0, 5), answer(false, 2, 2, [0, 0])),
+        reading(one_stream(2, 0, 5, 2), [answer(false, 1, 1, [-5])]),
+        reading(one_stream(2, 0, 8, 2), [answer(false, 1, 1, [-8])]),
+        reading(one_stream(2, 0, 9, 2), [answer(false, 2, 1, [-8])]),
+        reading(one_stream(0, 0, 5, 2), [answer(false, 2, 0, [0])]),
+        reading(one_stream(2, 10, 5, 2), [answer(false, 2, 0, [-5])]),
+        reading(one_stream(2, 10, 5, 1), [answer(true, 1, 0, [5])]),
+        reading(two_streams(10, 5), [answer(false, 5, 2, [-4, 4])]),
+        reading(two_streams(10, 4), [answer(true, 4, 2, [-8, 10])]),
+        reading(two_streams(3, 5), [answer(false, 2, 2, [-3, 3])]),
+        reading(two_streams(0, 5), [answer(false, 2, 2, [0, 0])]),
     ]
 }
 
-fn reading(numbers: Numbers, answer: Answer) -> Reading {
-    Reading { numbers, answer }
+fn reading<const VECTORS: usize>(contents: Contents, answers: [Answer; VECTORS]) -> Reading {
+    Reading { contents, answers: answers.to_vec() }
 }
+
+/// The same numbers with W behind C.
+pub fn weak(contents: Contents, weak: i64) -> Contents {
+    Block::of(&contents).with_weak(weak).contents()
+}
+
+/// Readings with W, worked out by hand. It is given to a stopped vector's bit that has one empty side, as it is: no prior goes off it.
+pub fn weakened() -> [Reading; 16] {
+    [
+        // Leaves 2 (1) and 0 (9): 1 - 9, which is beyond W, and no walked label with the second bit 1.
+        reading(weak_reading(), [answer(true, 4, 2, [-8, 7])]),
+        reading(weak(two_streams(10, 4), 3), [answer(true, 4, 2, [-8, 3])]),
+        reading(weak(two_streams(10, 4), 0), [answer(true, 4, 2, [-8, 0])]),
+        reading(weak(two_streams(10, 4), 10), [answer(true, 4, 2, [-8, 10])]),
+        reading(weak(two_streams(10, 3), 7), [answer(true, 3, 2, [-8, 7])]),
+        // Label 2 alone.
+        reading(weak(two_streams(10, 2), 7), [answer(true, 2, 2, [-7, 7])]),
+        // Complete: W plays no part.
+        reading(weak(two_streams(10, 5), 7), [answer(false, 5, 2, [-4, 4])]),
+        reading(weak(two_streams(10, 5), 0), [answer(false, 5, 2, [-4, 4])]),
+        // Complete with the last node of the allowance: whatever is left, 4 or more, is not below 1 + 3.
+        reading(weak(two_streams(3, 2), 1), [answer(false, 2, 2, [-3, 3])]),
+        // Complete, one side cut whole: 9 is not below 1 + 5.
+        reading(weak(one_stream(2, 0, 5, 2), 0), [answer(false, 1, 1, [-5])]),
+        // 9 and 11, of which only the first is walked.
+        reading(weak(one_stream(2, 10, 5, 1), 3), [answer(true, 1, 0, [3])]),
+        reading(weak(one_stream(2, 10, 5, 1), 2), [answer(true, 1, 0, [2])]),
+        reading(weak(one_stream(2, 10, 5, 2), 2), [answer(false, 2, 0, [-5])]),
+        // The other way round.
+        reading(weak(one_stream(-2, -10, 5, 1), 3), [answer(true, 1, 1, [-3])]),
+        // The vector of two streams twice.
+        reading(weak(listing(), 7), [answer(true, 4, 2, [-8, 7]), answer(true, 2, 2, [-7, 7])]),
+        reading(weak(listing(), 0), [answer(true, 4, 2, [-8, 0]), answer(true, 2, 2, [0, 0])]),
+    ]
+}
+
+/// The vector of two streams with C = 10, W = 7 and D = 4.
+pub fn weak_reading() -> Contents {
+    weak(two_streams(10, 4), 7)
+}
+
+/// Its record, byte by byte.
+pub const WEAK_RECORD: [u8; 20] = [
+    0x43, 0x42, 0x52, 0x32, 0x02, 0x01, 0x01, 0x0A, 0x07, 0x04, // The sizes.
+    0x01, 0x02, 0x00, 0x01, 0x02, 0x00, 0x01, 0x00, 0x00, 0x00, // The vector.
+];
+
+/// Its reply, byte by byte.
+pub const WEAK_REPLY: [u8; 12] = [0x43, 0x42, 0x53, 0x31, 0x02, 0x01, 0x01, 0x01, 0x04, 0x02, 0x0F, 0x0E];
 
 pub fn answer<const BITS: usize>(stopped: bool, nodes: i64, label: usize, values: [i64; BITS]) -> Answer {
     Answer { stopped, nodes, label, values: values.to_vec() }
 }
 
-/// The listing's numbers: the vector of two streams twice, C = 10, D = 3.
-pub fn listing_numbers() -> Numbers {
-    [[2, 1, 2, 10, 3].as_slice(), &TWO_STREAMS, &TWO_STREAMS].concat()
+/// The listing: the vector of two streams twice, C = 10, D = 3.
+pub fn listing() -> Contents {
+    older([[2, 1, 2, 10, 3].as_slice(), &TWO_STREAMS, &TWO_STREAMS].concat())
 }
 
 /// Its record, byte by byte.

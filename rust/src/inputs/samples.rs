@@ -3,17 +3,17 @@
 use super::cases::longest_record;
 use super::chance::Chance;
 use super::channel::Plan;
-use super::readings::{listing_numbers, LISTING_RECORD};
+use super::readings::{listing, weak, LISTING_RECORD};
 use super::with;
-use crate::format::encoding::{encode, Numbers};
+use crate::format::encoding::{Contents, Opening};
 use crate::format::record::Refusal;
 use crate::format::reply;
 
 /// The names of the samples that are made here of numbers, and these.
-pub fn all() -> [(&'static str, Numbers); 9] {
-    let sent = |seed: u64, plan: Plan| plan.block(&mut Chance(seed)).numbers();
+pub fn all() -> [(&'static str, Contents); 11] {
+    let sent = |seed: u64, plan: Plan| plan.block(&mut Chance(seed)).contents();
     [
-        ("example", listing_numbers()),
+        ("example", listing()),
         // Six vectors in strong noise, with an allowance that some of them use up.
         ("stopped", sent(21, Plan { streams: 4, bits: 4, vectors: 6, clip: 8.0, share: 40, noise: 0.9, prior: 0.0 })),
         // Two streams with priors of both signs, most of them right and some wrong.
@@ -25,11 +25,22 @@ pub fn all() -> [(&'static str, Numbers); 9] {
         ("full-stopped", sent(6, Plan { streams: 4, bits: 6, vectors: 64, clip: 2.0, share: 60, noise: 0.9, prior: 1.0 })),
         // Three streams of 256 points with priors, and an allowance that the last vectors use up.
         ("wide", sent(24, Plan { streams: 3, bits: 8, vectors: 6, clip: 8.0, share: 60, noise: 0.9, prior: 0.5 })),
+        ("weaker", weaker()),
         // The example, but the last prior is above its range.
-        ("refused", with(&listing_numbers(), 24, 1_048_576)),
+        ("refused", listing().with(24, 1_048_576)),
         // Four streams of 256 points, where three are the most.
         ("refused-wide", sent(25, Plan { streams: 4, bits: 8, vectors: 1, clip: 8.0, share: 60, noise: 0.9, prior: 0.0 })),
+        // The example with W, which is one above C.
+        ("refused-weak", weak(listing(), 11)),
     ]
+}
+
+/// Two streams of 16 points with priors, with an allowance that the last vectors use up, and a quarter of C as W.
+fn weaker() -> Contents {
+    let plan = Plan { streams: 2, bits: 4, vectors: 5, clip: 8.0, share: 12, noise: 0.9, prior: 0.5 };
+    let block = plan.block(&mut Chance(39));
+    let quarter = block.clip / 4;
+    block.with_weak(quarter).contents()
 }
 
 /// The names of the samples that were written by hand, as a text: samples/NAME.numbers is where their numbers come from.
@@ -47,18 +58,19 @@ pub fn broken() -> [(&'static str, Vec<u8>); 5] {
 }
 
 /// One vector of two streams of four points, under priors of either sign, weak and strong, and none.
-fn signed_priors() -> Numbers {
+fn signed_priors() -> Contents {
     let vector = [3, 1, -2, 4, 5, -7, -3, 2];
     let priors =
         [[0, 0, 0, 0], [6, -4, 0, -1], [-6, 4, 0, 1], [1, 1, 1, 1], [-1, -1, -1, -1], [900, -900, 900, 0], [-900, 900, 0, 900]];
     let vectors = priors.iter().flat_map(|priors| [vector.as_slice(), priors].concat());
-    [2, 2, 7, 40, 9].into_iter().chain(vectors).collect()
+    Contents { opening: Opening::One, numbers: [2, 2, 7, 40, 9].into_iter().chain(vectors).collect() }
 }
 
-/// A record for each refusal that a record can meet, by number: the example with one thing wrong, for 15 with M and Q exchanged.
-pub fn refusals() -> [(Refusal, Vec<u8>); 14] {
+/// A record for each refusal that a record can meet, by number: the example with one thing wrong, for 15 with M and Q exchanged, for 16
+/// with a W.
+pub fn refusals() -> [(Refusal, Vec<u8>); 15] {
     let with_byte = |at: usize, byte: u8| with(&LISTING_RECORD, at, byte);
-    let with_number = |at: usize, number: i64| encode(&with(&listing_numbers(), at, number));
+    let with_number = |at: usize, number: i64| listing().with(at, number).record();
     let with_bytes = |at: usize, bytes: &[u8], then: usize| [&LISTING_RECORD[..at], bytes, &LISTING_RECORD[then..]].concat();
     [
         (1, with_byte(3, 0x30)),
@@ -75,13 +87,40 @@ pub fn refusals() -> [(Refusal, Vec<u8>); 14] {
         (12, with_number(13, -1_048_576)),
         (13, with_bytes(29, &[0x00], 29)),
         (15, with_bytes(4, &[4, 8], 6)),
+        (16, weak(listing(), 11).record()),
     ]
 }
 
 #[cfg(test)]
 mod tests {
     use super::*;
-    use crate::format::record::read;
+    use crate::detectors::plain::answers;
+    use crate::format::block::Block;
+    use crate::format::record::{read, MOST_BYTES};
+    use crate::format::reply::Answer;
+
+    /// Two complete vectors, a stopped one with values of both sides, beyond W and within it, and two with no value of both sides; empty
+    /// sides of either sign.
+    #[test]
+    fn what_the_sample_with_w_shows() {
+        let block = Block::of(&weaker());
+        let answers = answers(&block);
+        assert_eq!(answers.iter().map(|answer| answer.stopped).collect::<Vec<_>>(), [false, false, true, true, true]);
+        let weak = block.weak;
+        let beyond = |answer: &Answer| answer.values.iter().filter(|value| value.abs() > weak).count();
+        let within = |answer: &Answer| answer.values.iter().filter(|value| value.abs() < weak).count();
+        assert_eq!((beyond(&answers[2]), within(&answers[2])), (3, 1));
+        for answer in &answers[2..] {
+            assert!(answer.values.contains(&weak) && answer.values.contains(&-weak));
+        }
+        assert_eq!((beyond(&answers[3]), within(&answers[3]), beyond(&answers[4]), within(&answers[4])), (0, 0, 0, 0));
+    }
+
+    #[test]
+    fn the_longest_sample_is_a_byte_longer_than_any_record() {
+        let longest = broken().iter().map(|(_, record)| record.len()).max();
+        assert_eq!((longest, MOST_BYTES + 1), (Some(8_212), 8_212));
+    }
 
     #[test]
     fn each_refusal_has_its_record() {
@@ -92,7 +131,7 @@ mod tests {
 
     #[test]
     fn the_samples_that_are_refused() {
-        let records = all().map(|(name, numbers)| (name, encode(&numbers)));
+        let records = all().map(|(name, contents)| (name, contents.record()));
         for (name, record) in records.into_iter().chain(broken()) {
             let refusal = match name {
                 "empty" | "other-opening" => Some(1),
@@ -100,6 +139,7 @@ mod tests {
                 "refused" => Some(12),
                 "trailing" | "too-long" => Some(13),
                 "refused-wide" => Some(15),
+                "refused-weak" => Some(16),
                 _ => None,
             };
             assert_eq!(read(&record).err(), refusal, "{name}");

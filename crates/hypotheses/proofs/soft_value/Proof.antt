@@ -1,6 +1,6 @@
 -- The three cases are those of the model's soft value; the difference of two metrics and the prior is small.
 use Prim.Native.Nat.{_<_, _^_}
-use mathlib.Core.Path.{_∙_}
+use mathlib.Core.Path.{_≡_, _∙_}
 use native.Mathlib.Omega.{arith}
 use borrow.Author.Needs.{needs, sfits-of}
 use borrow.Author.Tests.{eq-eqb, ne-eqb}
@@ -10,18 +10,15 @@ use mir.Val.{SFits}
 use mir.Facts.{toZ-ofZ, toZ-pos}
 use Rattle.integers.proofs.Fits.{sfits-abs, zero-sub, negation-fits}
 use Rattle.integers.proofs.Magnitudes.{natAbs-sub}
-use Rattle.search_spec.specs.Program.{sideOf}
+use Rattle.search_spec.specs.Program.{above, sideOf}
 use Rattle.hypotheses.proofs.soft_value.Statement.{statement}
 use Rattle.hypotheses.proofs.soft_value.Tie as tie
 
-clip-small : (c : tie.Start) → c .args .clip < 2 ^ 31
-clip-small c = omega (arith, c .pre .3)
+empty-small : (c : tie.Start) → c .args .empty < 2 ^ 31
+empty-small c = omega (arith, c .pre .3, c .pre .4)
 
-clip-fits : (c : tie.Start) → SFits w32 (pos (c .args .clip))
-clip-fits c = sfits-abs (pos (c .args .clip)) (clip-small c)
-
-low-fits : (c : tie.Start) → SFits w32 (pos 0 -ℤ pos (c .args .clip))
-low-fits c = negation-fits (pos (c .args .clip)) (clip-small c)
+low-fits : (c : tie.Start) → SFits w32 (pos 0 -ℤ pos (c .args .empty))
+low-fits c = negation-fits (pos (c .args .empty)) (empty-small c)
 
 one-small : (c : tie.Start) → c .args .one < 2 ^ 63
 one-small c = omega (arith, c .pre .0)
@@ -43,16 +40,19 @@ whole c = sfits-abs _
 
 returns : tie.Need-returns
 unfolding sideOf
-returns c = let h = clip-small (c .before) in simp (toZ-pos, eq-eqb _ _ (c .if1 .taken))
+returns c =
+    let h = empty-small (c .before) in let none : c .before .args .one ≡ above = c .if1 .taken in
+    simp (toZ-pos, eq-eqb _ _ none)
 
 sub-result : tie.Need-sub-result
-sub-result c = let h = clip-small (c .before .before) in simp toZ-pos (low-fits (c .before .before))
+sub-result c = let h = empty-small (c .before .before) in simp toZ-pos (low-fits (c .before .before))
 
 returns-2 : tie.Need-returns-2
 unfolding sideOf
 returns-2 c =
-    let s = c .before .before in let h = clip-small s in let g = low-fits s in
-    simp (toZ-pos, toZ-ofZ, zero-sub, ne-eqb _ _ (c .before .if1 .left), eq-eqb _ _ (c .if2 .taken))
+    let s = c .before .before in let h = empty-small s in let g = low-fits s in
+    let none : s .args .zero ≡ above = c .if2 .taken in
+    simp (toZ-pos, toZ-ofZ, zero-sub, ne-eqb _ _ (c .before .if1 .left), eq-eqb _ _ none)
 
 sub-clip : tie.Need-sub-clip
 sub-clip c =
@@ -87,5 +87,5 @@ soft-value-spec =
     (λ c. search needs)
     sub-clip
     sub-clip-2
-    (λ c κs. clip-small (c .before .before))
+    (λ c κs. omega (arith, c .before .before .pre))
     returns-3)

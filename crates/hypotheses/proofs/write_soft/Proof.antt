@@ -16,12 +16,12 @@ use Rattle.hypotheses.proofs.write_soft.Statement.{statement}
 use Rattle.hypotheses.proofs.write_soft.Tie as tie
 
 abbrev Inv-loop : tie.InvT-loop
-Inv-loop task numbers minima soft₀ n i₀ soft i =
+Inv-loop task empty numbers minima soft₀ n i₀ soft i =
     (i ≤ n) × (soft
-    ≡ filled (valueOf (vectorFor task numbers) (takenIn 0 0 minima)) i soft₀)
+    ≡ filled (valueOf (vectorFor task numbers) empty (takenIn 0 0 minima)) i soft₀)
 
 abbrev μ-loop : tie.MeasureT-loop
-μ-loop task numbers minima soft₀ n i₀ soft i = n - i
+μ-loop task empty numbers minima soft₀ n i₀ soft i = n - i
 
 inside : (c : tie.In-loop Inv-loop μ-loop) → c .before .loop .i < 24
 inside c = omega (arith, c .loop-test .taken, c .before .before .before .before .pre .0 .vector .label)
@@ -47,10 +47,11 @@ soft-value-requires c κs =
     let s = l .before .before .before in
     let i = inside (p .before) in
     let f : SFits w64 (p .prior-at .result) = sfits-of (p .prior-at .ok) in (
-      omega (arith, one-at (s .args .minima .now) (l .loop .i) i, s .pre .1 .ones-low (l .loop .i)),
-      omega (arith, zero-at (s .args .minima .now) (l .loop .i) i, s .pre .1 .zeros-low (l .loop .i)),
+      omega (arith, one-at (s .args .minima .now) (l .loop .i) i, s .pre .2 .ones-low (l .loop .i)),
+      omega (arith, zero-at (s .args .minima .now) (l .loop .i) i, s .pre .2 .zeros-low (l .loop .i)),
       simp toZ-ofZ (prior-low p),
       s .pre .0 .clips,
+      s .pre .1,
     )
 
 loop-again : tie.Need-loop-again Inv-loop μ-loop
@@ -65,8 +66,8 @@ loop-again c =
     let v = vectorFor (a .task) (a .numbers .now) in
     let e = toZ-ofZ h ∙ (simp toZ-ofZ at (c .soft-value .ensures)) in (
       omega (arith, p .before .loop-test .taken),
-      write-more v (zerosOf m) (onesOf m) (l .loop .i) (a .soft .now) (l .loop .soft) _ (l .loop .inv .1)
-          (soft-by v (zerosOf m) (onesOf m) (l .loop .i) (p .prior-at .result) _ (p .prior-at .ensures)
+      write-more v (a .empty) (zerosOf m) (onesOf m) (l .loop .i) (a .soft .now) (l .loop .soft) _ (l .loop .inv .1)
+          (soft-by v (a .empty) (zerosOf m) (onesOf m) (l .loop .i) (p .prior-at .result) _ (p .prior-at .ensures)
           (rw (one-at m (l .loop .i) i, zero-at m (l .loop .i) i) at e)),
     )
 
@@ -88,9 +89,9 @@ write-soft-spec =
     (λ c κs. (c .before .before .before .before .pre .0 .vector, c .loop-test .taken))
     (λ c. omega (arith, inside (c .before)))
     (λ c. omega (arith, inside (c .before)))
-    (λ c. omega (arith, inside (c .before .before), c .before .before .before .before .before .before .pre .2))
+    (λ c. omega (arith, inside (c .before .before), c .before .before .before .before .before .before .pre .3))
     (λ c. omega (arith, inside (c .before .before)))
-    (λ c. omega (arith, inside (c .before .before .before), c .before .before .before .before .before .before .before .pre .2))
+    (λ c. omega (arith, inside (c .before .before .before), c .before .before .before .before .before .before .before .pre .3))
     soft-value-requires
     (λ c. omega (arith, inside (c .before .before .before .before)))
     (λ c. omega (arith, inside (c .before .before .before .before)))

@@ -13,8 +13,9 @@ use mir.Syntax.{w64}
 use mir.Val.{SFits, toZ, ofZ}
 use mir.Facts.{toZ-ofZ}
 use Rattle.model.specs.Block.{answers}
-use Rattle.block.specs.Reading.{readWhole, got, into, mostNumbers}
+use Rattle.block.specs.Reading.{layoutOf, readWhole, got, into, mostNumbers}
 use Rattle.block.specs.Contents.{blockOf}
+use Rattle.block.specs.declared.Layout.{Layout}
 use Rattle.block.specs.declared.Read.the-variants.{Ended}
 use Rattle.search.specs.Holds.{Holds}
 use Rattle.search.proofs.Records.{lent-holds}
@@ -43,13 +44,16 @@ was-read : (c : tie.After-enum-told)
     → got (Ended (c .enum-told .given .0 .0)) (numbers c) ≡ into 0 (readWhole (bytes c)) empty
 was-read c = rw (c .enum-told .given .1) at (c .before .before .read-whole .ensures)
 
-holds : (c : tie.After-enum-told) → Holds (numbers c)
+abbrev layout : tie.After-enum-told → Layout
+layout c = layoutOf (bytes c)
+
+holds : (c : tie.After-enum-told) → Holds (layout c) (numbers c)
 holds c = lent-holds _ _ empty _ (length-replicate mostNumbers (pos 0)) (was-read c)
 
 -- The reply
 module _ (c : tie.After-geckoneedle-detect) where
   abbrev reply : List ℕ
-  reply = replyOf (blockOf (numbers (c .before .before)))
+  reply = replyOf (blockOf (layout (c .before .before)) (numbers (c .before .before)))
 
   abbrev array : List ℕ
   array = c .geckoneedle-detect .last .1 .0
@@ -78,27 +82,29 @@ module _ (c : tie.After-geckoneedle-detect) where
 
 cast-reply : tie.Need-cast-reply
 cast-reply c =
-    let d = c .before .before .before in
+    let d = c .before .before .before .before in
     let small = reply-fits (holds (d .before .before)) in
     (subst (λ (z : ℤ). T (nonNeg z)) (sym (number-is d)) tt, record { fits = omega (arith, size-is d) })
 
 write-block-requires : tie.Need-write-block-requires
 write-block-requires c κs =
-    let d = c .before .before .before .before in
-    let h = holds (d .before .before) in
-    record {
+    let d = c .before .before .before .before .before in
+    let t = d .before .before in
+    let h = holds t in
+    let b = blockOf (layout t) (numbers t) in
+    rw (c .before .before .layout-of .ensures)
+    (record {
       held = h;
-      stands =
-          subst (λ (l : List ℕ). Stand l 7 (answersNumbers (answers (blockOf (numbers (d .before .before)))))) (sym (front d))
-          (answers-stand (blockOf (numbers (d .before .before))) (h .ranged));
-      buffer = omega (arith, c .before .before .write-block-arg .given .0 .1);
-    }
+      stands = subst (λ (l : List ℕ). Stand l 7 (answersNumbers (answers b))) (sym (front d)) (answers-stand b (h .ranged));
+      buffer = omega (arith, c .before .before .before .write-block-arg .given .0 .1);
+    })
 
 returns : tie.Need-returns
 returns c =
-    let t = c .before .before .before .before .before .before .before in
+    let t = c .before .before .before .before .before .before .before .before in
+    let wrote = rw (c .before .before .before .layout-of .ensures) at (c .write-block .ensures) in
     whole (listed-block (bytes t) empty (numbers t) _ (length-replicate mostNumbers (pos 0)) (was-read t))
-    (omega (arith, c .write-block .ensures .0, c .before .before .before .write-block-arg .given .0 .1)) (c .write-block .ensures .1)
+    (omega (arith, wrote .0, c .before .before .before .before .write-block-arg .given .0 .1)) (wrote .1)
 
 returns-2 : tie.Need-returns-2
 returns-2 c =
@@ -118,10 +124,11 @@ list-spec =
     (λ c. search needs)
     (λ c. search needs)
     (λ c κs. search needs)
-    (λ c. sym (holds (c .before .before .before .before .before) .room))
+    (λ c κs. search needs)
+    (λ c. sym (holds (c .before .before .before .before .before .before) .room))
     cast-reply
-    (λ c. inside (c .before .before .before))
-    (λ c. let d = c .before .before .before .before in sym (length-take-le (size d) (array d) (inside d)))
+    (λ c. inside (c .before .before .before .before))
+    (λ c. let d = c .before .before .before .before .before in sym (length-take-le (size d) (array d) (inside d)))
     write-block-requires
     (λ c. search needs)
     (λ c. search needs)

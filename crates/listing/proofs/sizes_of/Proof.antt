@@ -1,4 +1,5 @@
 -- M and Q of a record are small.
+use mathlib.Core.Path.{refl}
 use native.Mathlib.Omega.{arith}
 use borrow.Author.Needs.{needs}
 use Rattle.search.proofs.Records.{Sums, sums}
@@ -6,13 +7,13 @@ use Rattle.listing.proofs.sizes_of.Statement.{statement}
 use Rattle.listing.proofs.sizes_of.Tie as tie
 
 small : (c : tie.After-count-at2) → Sums (c .before .count-at .result) (c .count-at2 .result)
-small c = sums _ (c .before .before .pre) _ _ (c .before .count-at .ensures) (c .count-at2 .ensures)
+small c = sums _ _ (c .before .before .pre) _ _ (c .before .count-at .ensures) (c .count-at2 .ensures)
 
 returns : tie.Need-returns
 returns c =
     let m = c .before .count-at .ensures in
     let q = c .count-at2 .ensures in
-    record { vector-is = rw (m, q); bits-is = rw (m, q) }
+    (refl, record { vector-is = rw (m, q); bits-is = rw (m, q) })
 
 pub sizes-of-spec : {M : Type 1} → statement M
 sizes-of-spec =

@@ -46,7 +46,7 @@ returns : tie.Need-returns
 returns c =
     let n = c .before in
     let q = n .before .before in
-    (rw (c .smaller .ensures, streams (q .before .before), width q, vectors n), omega (arith, bounds c .vectors))
+    (rw (c .smaller .ensures, streams (q .before .before), width q, vectors n), omega (arith, bounds c .vectors, c .before .before .before .before .before .before .before .pre))
 
 pub count-spec : {M : Type 1} → statement M
 count-spec =
@@ -65,5 +65,5 @@ count-spec =
     (λ c. omega (arith, bounds c .square))
     (λ c. omega (arith, bounds c .square, c .smaller .ensures))
     (λ c. omega (arith, bounds c .vectors))
-    (λ c. omega (arith, bounds c .vectors))
+    (λ c. omega (arith, bounds c .vectors, c .before .before .before .before .before .before .before .pre))
     returns)

@@ -14,22 +14,25 @@ use Rattle.records.proofs.geckoneedle_read.Tie as tie
 
 hand-over-requires : tie.Need-hand-over-requires
 hand-over-requires c κs =
-    let t = c .before .before in
+    let l = c .before .before in
+    let t = l .before in
     let e = rw (t .enum-told .given .1) at (t .before .before .read-whole .ensures) in
     let size = length-replicate mostNumbers (pos 0) in
+    rw (l .layout-of .ensures)
     (lent-sized _ 0 (replicate mostNumbers (pos 0)) _ _ size e, lent-room _ _ (replicate mostNumbers (pos 0)) _ size e)
 
 returns : tie.Need-returns
 returns c =
     let w = c .before in
-    let t = w .before .before .before in
+    let l = w .before .before .before in
+    let t = l .before in
     let f : SFits w64 (w .hand-over .result) = sfits-of (w .hand-over .ok) in
     rw (
       read-ended _ _ (replicate mostNumbers (pos 0)) _ _ (length-replicate mostNumbers (pos 0))
           (rw (t .enum-told .given .1) at (t .before .before .read-whole .ensures)),
       toZ-ofZ f,
     )
-    (w .hand-over .ensures)
+    (rw (l .layout-of .ensures) at (w .hand-over .ensures))
 
 returns-2 : tie.Need-returns-2
 returns-2 c =
@@ -46,6 +49,7 @@ geckoneedle-read-spec =
     (tie.spec
     (λ c κs. search needs)
     (λ c. search needs)
+    (λ c κs. search needs)
     hand-over-requires
     (λ c. search needs)
     (λ c κs. search needs)

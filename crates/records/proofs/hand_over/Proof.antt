@@ -10,8 +10,8 @@ use mir.Syntax.{w64}
 use mir.Val.{SFits}
 use mir.Facts.{toZ-ofZ, toZ-pos}
 use Rattle.block.specs.Reading.{countAt, mostNumbers}
-use Rattle.block.specs.Filling.{call}
-use Rattle.block.proofs.Fillings.{fitted-short, fitted-enough}
+use Rattle.refusals.specs.Filling.{call}
+use Rattle.refusals.proofs.Fillings.{fitted-short, fitted-enough}
 use Rattle.block.proofs.Parts.{all-fit}
 use Rattle.records.specs.Steps.{numberCount}
 use Rattle.records.proofs.Reading.{sets-start}
@@ -19,14 +19,14 @@ use Rattle.records.proofs.hand_over.Statement.{statement}
 use Rattle.records.proofs.hand_over.Tie as tie
 
 -- The numbers are within the list
-few : (c : tie.After-number-count) → numberCount (c .before .before .args .list .now) ≤ mostNumbers
+few : (c : tie.After-number-count) → numberCount (c .before .before .args .layout) (c .before .before .args .list .now) ≤ mostNumbers
 few c =
     let s = c .before .before in
     let l = s .args .list .now in
-    all-fit (countAt 0 l) (countAt 1 l) (countAt 2 l) (s .pre .0 .streams) (s .pre .0 .label) (s .pre .0 .vectors)
+    all-fit (s .args .layout) (countAt 0 l) (countAt 1 l) (countAt 2 l) (s .pre .0 .streams) (s .pre .0 .label) (s .pre .0 .vectors)
 
 -- and as many
-many : (c : tie.After-number-count) → let l = c .before .before .args .list .now in length (take (numberCount l) l) ≡ c .number-count .result
+many : (c : tie.After-number-count) → let s = c .before .before in length (take (numberCount (s .args .layout) (s .args .list .now)) (s .args .list .now)) ≡ c .number-count .result
 many c =
     let s = c .before .before in
     length-take-le _ (s .args .list .now) (omega (arith, few c, s .pre .1)) ∙ sym (c .number-count .ensures)
@@ -50,7 +50,7 @@ returns-2 c =
     let small : n .number-count .result < 2 ^ 63 = omega (arith, few n, n .number-count .ensures) in
     let enough = rw (sym (many n)) at (w .before .before .if1 .left) in
     rw (fitted-enough _ _ enough)
-    (ap₂ call (toZ-pos w64 small ∙ ap pos (sym (many n))) ((rw (n .number-count .ensures) at (w .copy .ensures)) ∙ sets-start (n .before .before .args .numbers .now) (take (numberCount l) l) enough))
+    (ap₂ call (toZ-pos w64 small ∙ ap pos (sym (many n))) ((rw (n .number-count .ensures) at (w .copy .ensures)) ∙ sets-start (n .before .before .args .numbers .now) (take (numberCount (n .before .before .args .layout) l) l) enough))
 
 pub hand-over-spec : {M : Type 1} → statement M
 hand-over-spec =

@@ -1,32 +1,33 @@
 -- In the header the kind is the header's; behind it M and Q are known to be in their ranges, and the kind is that of the vectors.
-use mathlib.Core.Path.{sym, _∙_, ap}
+use Prim.Native.Nat.{_≤_, _<_}
+use mathlib.Core.Path.{sym, _∙_}
 use native.Mathlib.Omega.{arith}
-use borrow.Author.Needs.{needs, sfits-of}
-use lib.IntN.{ℤ, pos}
-use lib.ListN.{getD}
-use mir.Syntax.{w32}
-use mir.Val.{SFits}
-use mir.Facts.{toZ-ofZ}
-use Rattle.block.specs.Contents.{headerKinds}
-use Rattle.block.specs.declared.Kind.the-variants.{StreamCount}
-use Rattle.block.proofs.CalledFor.{called-header, called-vector}
+use borrow.Author.Needs.{needs}
+use Rattle.block.specs.Reading.{headerSize}
+use Rattle.block.proofs.CalledFor.{record-header, record-vector, called-at, called-few}
 use Rattle.records.specs.Steps.{Sized}
 use Rattle.records.proofs.Places.{sized}
 use Rattle.records.proofs.kind_at.Statement.{statement}
 use Rattle.records.proofs.kind_at.Tie as tie
 
+within : (c : tie.Then1) → c .before .before .args .i < headerSize (c .before .before .args .layout)
+within c = rw (c .before .header-size .ensures) at (c .if1 .taken)
+
+behind : (c : tie.Else1) → headerSize (c .before .before .args .layout) ≤ c .before .before .args .i
+behind c = rw (c .before .header-size .ensures) at (c .if1 .left)
+
 returns : tie.Need-returns
 returns c =
-    let s = c .before .before .before in
-    let f : SFits w32 (getD (s .args .numbers .now) 0 (pos 0)) = sfits-of (c .before .header-kind-arg .given) in
-    c .header-kind .ensures ∙ ap (λ (m : ℤ). getD (headerKinds m) (s .args .i) StreamCount) (toZ-ofZ f)
-    ∙ sym (called-header (s .args .numbers .now) (omega (arith, s .pre .inside)) (s .args .i) (c .before .before .if1 .taken))
+    let t = c .before in
+    let s = t .before .before in
+    let l = s .args .numbers .now in
+    c .header-kind .ensures
+    ∙ sym (called-at (s .args .layout) l (s .args .i) (s .pre .called) ∙ record-header (s .args .layout) l (s .args .i) (within t))
 
-in-range : (c : tie.Else1) → Sized (c .before .args .numbers .now)
+in-range : (c : tie.Else1) → let s = c .before .before in Sized (s .args .layout) (s .args .numbers .now)
 in-range c =
-    let s = c .before in
-    sized (s .args .numbers .now) (s .args .i) (omega (arith, s .pre .inside)) (s .pre .before) (c .if1 .left)
-    (omega (arith, s .pre .inside))
+    let s = c .before .before in
+    sized (s .args .layout) (s .args .numbers .now) (s .args .i) (omega (arith, s .pre .inside)) (s .pre .before) (behind c)
 
 vector-kind-requires : tie.Need-vector-kind-requires
 vector-kind-requires c κs =
@@ -39,21 +40,22 @@ returns-2 c =
     let q = c .before in
     let m = q .before in
     let e = m .before in
-    let s = e .before in
-    let r = in-range e in
-    (rw (m .count-at .ensures, q .count-at2 .ensures) at (c .vector-kind .ensures))
-    ∙ sym (called-vector (s .args .numbers .now) (r .header) (s .args .i) (e .if1 .left) (s .pre .called))
+    let s = e .before .before in
+    let o = s .args .layout in
+    let l = s .args .numbers .now in
+    (rw (m .count-at .ensures, q .count-at2 .ensures, e .before .header-size .ensures) at (c .vector-kind .ensures))
+    ∙ sym (called-at o l (s .args .i) (s .pre .called) ∙ record-vector o l (s .args .i) (behind e) (omega (arith, s .pre .called, called-few o l)))
 
 pub kind-at-spec : {M : Type 1} → statement M
 kind-at-spec =
     tie.close
     (tie.spec
-    (λ c. search needs)
     (λ c κs. search needs)
+    (λ c κs. (within c, c .before .before .pre .inside))
     returns
-    (λ c κs. search needs)
+    (λ c κs. omega (arith, c .before .before .pre .inside))
     (λ c. search needs)
-    (λ c κs. search needs)
+    (λ c κs. omega (arith, in-range (c .before) .header))
     (λ c. search needs)
     vector-kind-requires
     returns-2)

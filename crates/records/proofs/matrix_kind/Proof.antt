@@ -6,7 +6,7 @@ use native.Mathlib.Nat.{suc-mul, mul-suc}
 use native.Mathlib.Omega.{arith}
 use lib.ListN.{getD}
 use Rattle.block.specs.Reading.{kindsOf, matrixRuns}
-use Rattle.block.specs.declared.Kind.the-variants.{StreamCount}
+use Rattle.refusals.specs.declared.Kind.the-variants.{StreamCount}
 use Rattle.block.proofs.CalledFor.{matrix-diagonal, matrix-right, matrix-below}
 use Rattle.records.proofs.matrix_kind.Statement.{statement}
 use Rattle.records.proofs.matrix_kind.Tie as tie

@@ -1,10 +1,11 @@
--- The walk from the root keeps what the model's search keeps, and the soft values are written from its minima.
+-- The walk from the root keeps what the model's search keeps, and the soft values are written from its minima, with W or C on empty sides.
 use mathlib.Core.Path.{_≡_, refl, sym, subst}
 use mathlib.Core.List.{List}
 use borrow.Author.Needs.{needs}
 use native.Mathlib.Nat.{le-trans}
 use lib.IntN.{ℤ}
 use Rattle.model.specs.Block.{mostBits}
+use Rattle.model.proofs.Weak.{empty-most}
 use Rattle.metric.specs.Tables.{Tabled}
 use Rattle.metric.proofs.Tables.{rows-tabled}
 use Rattle.hypotheses.specs.Limits.{vectorFor}
@@ -23,7 +24,7 @@ begin-requires c κs =
     let tabled =
     subst (λ (l : List ℤ). Tabled m q (s .args .numbers .now) l) (sym (p .prepare .ensures))
     (rows-tabled m q (s .args .numbers .now) _ (v .bits) refl m (v .streams)) in
-    (root-asked (s .pre .0) _ (le-trans (keys-many (s .pre .0)) (s .pre .2)), s .pre .0 .stream, refl, tabled, refl, s .pre .3)
+    (root-asked (s .pre .0) _ (le-trans (keys-many (s .pre .0)) (s .pre .3)), s .pre .0 .stream, refl, tabled, refl, s .pre .4)
 
 -- What the walk has kept, from nothing
 walked : (c : tie.After-begin)
@@ -35,15 +36,19 @@ walked c = c .begin .ensures .0
 
 write-soft-requires : tie.Need-write-soft-requires
 write-soft-requires c κs =
-    let w = c .before .before .before .before .before in
+    let e = c .before .before in
+    let w = e .before .before .before .before in
     let s = w .before .before .before .before .before .before .before in
-    (s .pre .0, end-low (s .pre .0) (s .args .task .allowance) (walked w), w .begin .ensures .1)
+    let at-most = empty-most (w .begin .result .stopped) (s .pre .1) in
+    (s .pre .0, rw (e .empty-side .ensures) at-most, end-low (s .pre .0) (s .args .task .allowance) (walked w), w .begin .ensures .1)
 
 returns : tie.Need-returns
 returns c =
-    let w = c .before .before .before .before .before .before in
+    let e = c .before .before .before in
+    let w = e .before .before .before .before in
     let s = w .before .before .before .before .before .before .before in
-    end-answered (s .pre .0) (s .args .task .allowance) (walked w) _ _ (s .pre .1) (c .write-soft .ensures)
+    end-answered (s .pre .0) (s .args .task .allowance) (walked w) (s .args .weak) (e .empty-side .ensures) _ _ (s .pre .2)
+    (c .write-soft .ensures)
 
 pub search-vector-spec : {M : Type 1} → statement M
 search-vector-spec =
@@ -52,6 +57,7 @@ search-vector-spec =
     (λ c κs. search needs)
     (λ c. search needs)
     begin-requires
+    (λ c κs. search needs)
     (λ c. search needs)
     write-soft-requires
     (λ c. search needs)

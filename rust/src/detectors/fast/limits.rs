@@ -14,6 +14,8 @@ pub struct Limits<const A: usize, const B: usize> {
     pub best: i64,
     /// m.
     pub label: u32,
+    /// The bits that are 0 in one walked leaf and 1 in another.
+    pub both: u32,
     /// Of each bit, the smaller of U and B + C with the prior added (m's bit 0) or taken off (1).
     pub limit: [i64; 32],
     /// The largest limit of each stream's bits.
@@ -49,6 +51,7 @@ impl<const A: usize, const B: usize> Limits<A, B> {
             priors: [0; 32],
             best: FAR,
             label: 0,
+            both: 0,
             limit: [FAR; 32],
             of_stream: [NEVER; 4],
             below: [NEVER; 4],
@@ -63,6 +66,7 @@ impl<const A: usize, const B: usize> Limits<A, B> {
     pub fn clear(&mut self) {
         self.best = FAR;
         self.label = 0;
+        self.both = 0;
         self.limit = [FAR; 32];
         self.leaves = 0;
         self.changed = [false; 4];
@@ -80,7 +84,8 @@ impl<const A: usize, const B: usize> Limits<A, B> {
         Self::shift(stream)..Self::shift(stream) + Self::BITS
     }
 
-    /// A leaf has been walked.
+    /// A leaf has been walked. Where it differs from m, the bit is 0 in the one and 1 in the other; a bit in which no leaf does is m's
+    /// in all of them.
     #[inline(never)]
     pub fn add_leaf(&mut self, metric: i64, label: u32) {
         if metric < self.best || (metric == self.best && label < self.label) {
@@ -100,6 +105,7 @@ impl<const A: usize, const B: usize> Limits<A, B> {
     /// old limit will do in U's place.
     fn add_best(&mut self, metric: i64, label: u32) {
         let flipped = if self.leaves == 0 { 0 } else { label ^ self.label };
+        self.both |= flipped;
         let clipped = metric + self.clip;
         for stream in 0..4 {
             if stream >= self.streams {
@@ -123,6 +129,7 @@ impl<const A: usize, const B: usize> Limits<A, B> {
 
     /// A leaf that is not m: it can lower the limits of the bits in which it differs.
     fn add_other(&mut self, metric: i64, differing: u32) {
+        self.both |= differing;
         for stream in 0..4 {
             let own = differing >> Self::shift(stream) & ((1 << Self::BITS) - 1);
             if own == 0 {

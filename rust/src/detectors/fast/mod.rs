@@ -4,8 +4,8 @@
 //!   an axis label is `table - 2 R e a + e^2`, with (R a)^2 and the prior cost in the table, made once a vector.
 //! - Children come in order from the heads of rows, one row for each real-axis label; the imaginary axis is put in order only as
 //!   far as it is needed.
-//! - Of the walked leaves, the least metric, its label and each bit's limit are kept, and of the limits the largest by stream and
-//!   by axis label, so that a test looks at no single bit. They change at leaves only.
+//! - Of the walked leaves, the least metric, its label, each bit's limit and the bits in which they differ are kept, and of the limits
+//!   the largest by stream and by axis label, so that a test looks at no single bit. They change at leaves only.
 //! - Siblings end where the least metric left reaches the largest limit. A node is left at once where the distances to the nearest
 //!   amplitudes reach it, and a parent of leaves also where the axes' least parts show that no leaf passes.
 //!
@@ -49,7 +49,7 @@ fn answer_all<const A: usize, const B: usize>(sizes: &Sizes, numbers: &[i32], re
     let mut reply = Reply { bytes: reply, length: OPENING.len() };
     [sizes.streams, sizes.bits, sizes.vectors].into_iter().for_each(|size| reply.put(size as u32));
     let streams = sizes.streams as u32;
-    let mut search = Search::<A, B>::new(sizes.streams, i64::from(sizes.clip));
+    let mut search = Search::<A, B>::new(sizes.streams, i64::from(sizes.clip), i64::from(sizes.weak));
     let mut left = sizes.vectors as u32 * (sizes.share - streams);
     for vector in numbers.chunks_exact(sizes.vector_numbers()).take(sizes.vectors) {
         let allowance = left + streams;

@@ -1,14 +1,15 @@
 //! Reading a record quickly, with checks of its own: its sizes, and its vectors' numbers in record order.
 
-use crate::format::encoding::OPENING;
+use crate::format::encoding::Opening;
 use crate::format::record::Refusal;
 
-/// M, Q, N, C and D.
+/// M, Q, N, C, W and D; W is C where the record has none.
 pub struct Sizes {
     pub streams: usize,
     pub bits: usize,
     pub vectors: usize,
     pub clip: u32,
+    pub weak: u32,
     pub share: u32,
 }
 
@@ -24,11 +25,9 @@ struct Rest<'a>(&'a [u8]);
 
 /// The record's sizes, and its vectors' numbers.
 pub fn read(record: &[u8]) -> Result<(Sizes, Vec<i32>), Refusal> {
-    let Some(after) = record.strip_prefix(&OPENING) else {
-        return Err(1);
-    };
-    let mut rest = Rest(after);
-    let sizes = rest.sizes()?;
+    let opening = Opening::of(record).ok_or(1_u32)?;
+    let mut rest = Rest(&record[Opening::LENGTH..]);
+    let sizes = rest.sizes(opening.has_weak())?;
     let mut numbers = Vec::with_capacity(sizes.vectors * sizes.vector_numbers());
     for _ in 0..sizes.vectors {
         rest.vector(&mut numbers, &sizes)?;
@@ -43,7 +42,7 @@ pub fn read(record: &[u8]) -> Result<(Sizes, Vec<i32>), Refusal> {
 impl Rest<'_> {
     /// Once a record, and apart: the loops over the vectors then have the registers to themselves.
     #[inline(never)]
-    fn sizes(&mut self) -> Result<Sizes, Refusal> {
+    fn sizes(&mut self, has_weak: bool) -> Result<Sizes, Refusal> {
         let streams = self.plain(1, 4, 4)?;
         let bits = self.number()?;
         if !matches!(bits, 1 | 2 | 4 | 6 | 8) {
@@ -54,8 +53,9 @@ impl Rest<'_> {
         }
         let vectors = self.plain(1, 64, 6)?;
         let clip = self.plain(0, 16_777_215, 7)?;
+        let weak = if has_weak { self.plain(0, clip, 16)? } else { clip };
         let share = self.plain(streams, 17_043_520, 8)?;
-        Ok(Sizes { streams: streams as usize, bits: bits as usize, vectors: vectors as usize, clip, share })
+        Ok(Sizes { streams: streams as usize, bits: bits as usize, vectors: vectors as usize, clip, weak, share })
     }
 
     fn vector(&mut self, numbers: &mut Vec<i32>, sizes: &Sizes) -> Result<(), Refusal> {

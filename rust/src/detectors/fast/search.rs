@@ -12,6 +12,8 @@ type Pair = (i64, i64);
 /// A vector and its walk.
 pub struct Search<const A: usize, const B: usize> {
     limits: Limits<A, B>,
+    /// W.
+    weak: i64,
     diagonal: [i64; 4],
     /// right[i][j]: R's entry right of the diagonal.
     right: [[Pair; 4]; 4],
@@ -41,9 +43,10 @@ struct Node {
 }
 
 impl<const A: usize, const B: usize> Search<A, B> {
-    pub fn new(streams: usize, clip: i64) -> Self {
+    pub fn new(streams: usize, clip: i64, weak: i64) -> Self {
         Search {
             limits: Limits::new(streams, clip),
+            weak,
             diagonal: [1; 4],
             right: [[(0, 0); 4]; 4],
             re_table: [[0; A]; 4],
@@ -116,7 +119,8 @@ impl<const A: usize, const B: usize> Search<A, B> {
         self.left
     }
 
-    /// Writes the vector's part of the reply. A limit is already clipped on one side, and an empty side, infinite, too.
+    /// Writes the vector's part of the reply. A limit is already clipped on one side, and an empty side, infinite, too: that is what a
+    /// complete vector asks for, while a stopped one has W there.
     #[inline(never)]
     pub fn write(&self, reply: &mut Reply, nodes: u32) {
         let limits = &self.limits;
@@ -124,12 +128,13 @@ impl<const A: usize, const B: usize> Search<A, B> {
         reply.put(u32::from(self.stopped));
         reply.put(nodes);
         reply.put(limits.label >> unused);
+        let empty = if self.stopped { !limits.both } else { 0 };
         for place in (unused..4 * Limits::<A, B>::BITS).rev() {
+            let sign = if limits.label >> place & 1 == 1 { -1 } else { 1 };
             let gap = limits.limit[place] - limits.best;
-            let is_one = limits.label >> place & 1 == 1;
-            let signed = if is_one { -gap } else { gap };
-            let value = (signed - limits.priors[place]).clamp(-limits.clip, limits.clip);
-            reply.put_folded(value as i32);
+            let value = (sign * gap - limits.priors[place]).clamp(-limits.clip, limits.clip);
+            let is_empty = empty >> place & 1 == 1;
+            reply.put_folded(if is_empty { sign * self.weak } else { value } as i32);
         }
     }
 

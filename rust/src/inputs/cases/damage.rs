@@ -2,31 +2,34 @@
 
 use super::{accepted, Case, Intent};
 use crate::format::block::SHAPES;
-use crate::format::encoding::{encode, OPENING};
+use crate::format::encoding::Opening;
 use crate::inputs::chance::Chance;
-use crate::inputs::numbers::numbers_by_chance;
-use crate::inputs::readings::LISTING_RECORD;
+use crate::inputs::numbers::contents_by_chance;
+use crate::inputs::readings::{LISTING_RECORD, WEAK_RECORD};
 use crate::inputs::with;
 
-/// The listing record with each byte after the opening exchanged for some others.
+/// The listing record, and one with W, with each byte after the opening exchanged for some others.
 pub fn replaced_bytes() -> Vec<Case> {
-    let replaced = |at: usize, byte: u8| {
-        let about = format!("listing with byte {} as {byte:02X}", at + 1);
-        Case { about, bytes: with(&LISTING_RECORD, at, byte), intent: Intent::Either }
+    let replaced = |record: &[u8], at: usize, byte: u8| {
+        let about = format!("record of {} bytes with byte {} as {byte:02X}", record.len(), at + 1);
+        Case { about, bytes: with(record, at, byte), intent: Intent::Either }
     };
     let bytes = [0x00, 0x01, 0x04, 0x05, 0x06, 0x40, 0x41, 0x7F, 0x80, 0xFF];
-    (OPENING.len()..LISTING_RECORD.len()).flat_map(|at| bytes.map(|byte| replaced(at, byte))).collect()
+    let all =
+        |record: &'static [u8]| (Opening::LENGTH..record.len()).flat_map(move |at| bytes.map(|byte| replaced(record, at, byte)));
+    all(&LISTING_RECORD).chain(all(&WEAK_RECORD)).collect()
 }
 
-/// Records by chance, for every M and Q.
+/// Records by chance, for every M and Q, of each opening by turns.
 pub fn undamaged_by_chance() -> Vec<Case> {
     let mut chance = Chance(2024);
     let mut cases = Vec::new();
     for turn in 0..6 * SHAPES.len() {
         let (streams, bits) = SHAPES[turn % SHAPES.len()];
         let vectors = 1 + (turn / SHAPES.len()) as i64 % 3;
-        let numbers = numbers_by_chance(&mut chance, streams as i64, bits as i64, vectors);
-        cases.push(accepted(format!("by chance {}", turn + 1), encode(&numbers)));
+        let opening = Opening::ALL[turn % Opening::ALL.len()];
+        let contents = contents_by_chance(&mut chance, opening, (streams as i64, bits as i64, vectors));
+        cases.push(accepted(format!("by chance {}", turn + 1), contents.record()));
     }
     cases
 }
@@ -38,7 +41,8 @@ pub fn damaged_by_chance() -> Vec<Case> {
     for turn in 0..400 {
         let (streams, bits) = chance.one_of(&SHAPES);
         let vectors = chance.between(1, 3);
-        let mut bytes = encode(&numbers_by_chance(&mut chance, streams as i64, bits as i64, vectors));
+        let opening = Opening::ALL[turn % Opening::ALL.len()];
+        let mut bytes = contents_by_chance(&mut chance, opening, (streams as i64, bits as i64, vectors)).record();
         let at = chance.between(0, bytes.len() as i64 - 1) as usize;
         bytes[at] ^= chance.between(1, 255) as u8;
         let about = format!("damaged by chance {}: byte {}", turn + 1, at + 1);

@@ -1,7 +1,7 @@
 //! Test records for a record reader, each with what it was made to show; `reader_cases` stores them for the proved reader.
 //!
-//! Every refusal of document 01's table at its first and last place, document 02's 15 wherever it can be mistaken, both ends of every
-//! range, every pair of M and Q, cut and over-long numbers, the order of checks, and records made and damaged by chance.
+//! Every refusal of document 01's table at its first and last place, document 02's 15 and 16 wherever they can be mistaken, both ends of
+//! every range, every pair of M and Q, cut and over-long numbers, the order of checks, and records made and damaged by chance.
 
 mod damage;
 mod documents;
@@ -9,7 +9,9 @@ mod numbers;
 mod order;
 mod parts;
 mod sizes;
+mod weak;
 
+use crate::format::encoding::Opening::{One, Two};
 use crate::format::record::Refusal;
 use parts::{largest, sized, small, wide};
 
@@ -52,25 +54,33 @@ pub fn all() -> Vec<Case> {
         sizes::bit_counts(2),
         sizes::bit_counts(4),
         sizes::eight_bits(),
-        sizes::eight_bits_of_four_streams(),
+        sizes::eight_bits_of_four_streams(One),
+        sizes::eight_bits_of_four_streams(Two),
         sizes::not_eight_bits_of_four_streams(),
         sizes::pairs_of_sizes(),
         sizes::vector_counts(),
         sizes::clips(),
         sizes::shares(),
-        numbers::range_ends("2 streams", &small()),
-        numbers::range_ends("4 streams", &wide()),
-        numbers::range_ends("2 streams of 8 bits", &sized(2, 8, 1)),
-        numbers::rows_of_the_table("4 bits", &sized(3, 4, 2)),
-        numbers::rows_of_the_table("8 bits", &sized(3, 8, 2)),
-        numbers::largest_record(),
-        order::order_of_checks(&small()),
-        order::ends_of_checks(&small()),
+        weak::weak_readings(),
+        weak::weak_values(),
+        weak::order_around_weak_values(),
+        weak::shares_behind_weak_values(),
+        numbers::range_ends("2 streams", &small(One)),
+        numbers::range_ends("4 streams", &wide(One)),
+        numbers::range_ends("2 streams of 8 bits", &sized(Two, 2, 8, 1)),
+        numbers::rows_of_the_table("4 bits", &sized(One, 3, 4, 2)),
+        numbers::rows_of_the_table("8 bits", &sized(Two, 3, 8, 2)),
+        numbers::largest_records(),
+        numbers::last_places(&sized(Two, 2, 1, 64)),
+        order::order_of_checks(&small(One), small(One).count() - 1),
+        order::ends_of_checks(&small(One)),
+        order::ends_of_checks(&small(Two)),
         numbers::number_forms(),
-        numbers::cuts("2 streams", &small()),
-        numbers::cuts("4 streams", &wide()),
-        numbers::cuts("3 streams of 8 bits", &sized(3, 8, 1)),
-        numbers::over_long_everywhere(&wide()),
+        numbers::cuts("2 streams", &small(One)),
+        numbers::cuts("2 streams with W", &small(Two)),
+        numbers::cuts("4 streams", &wide(One)),
+        numbers::cuts("3 streams of 8 bits", &sized(Two, 3, 8, 1)),
+        numbers::over_long_everywhere(&wide(Two)),
         damage::replaced_bytes(),
         damage::undamaged_by_chance(),
         damage::damaged_by_chance(),
@@ -80,16 +90,17 @@ pub fn all() -> Vec<Case> {
     .collect()
 }
 
-/// The bytes of the longest record.
+/// The bytes of the longest record of all.
 pub fn longest_record() -> Vec<u8> {
-    largest().bytes()
+    largest(Two).bytes()
 }
 
 #[cfg(test)]
 mod tests {
     use super::*;
     use crate::format::block::SHAPES;
-    use crate::format::record::{read, MOST_BYTES};
+    use crate::format::encoding::Opening;
+    use crate::format::record::{read, MOST_BYTES, MOST_NUMBERS};
 
     #[test]
     fn each_case_shows_what_it_was_made_for() {
@@ -107,17 +118,33 @@ mod tests {
     fn each_row_is_reached_by_damage_too() {
         let damaged = damage::damaged_by_chance().into_iter().chain(damage::replaced_bytes()).chain(sizes::pairs_of_sizes());
         let verdicts: Vec<_> = damaged.map(|case| read(&case.bytes).err()).collect();
-        for row in (2..=13).chain([15]) {
+        for row in (2..=13).chain([15, 16]) {
             assert!(verdicts.contains(&Some(row)), "{row}");
         }
         assert!(verdicts.contains(&None));
     }
 
+    /// Under each opening there are accepted records, and all refusals but 1 that it can have.
     #[test]
-    fn the_largest_record_has_8207_bytes() {
-        let longest = |&(streams, bits): &(usize, usize)| parts::longest(streams as i64, bits as i64).bytes().len();
-        assert_eq!(SHAPES.iter().map(longest).max(), Some(8_207));
-        assert_eq!((longest_record().len(), MOST_BYTES), (8_207, 8_207));
+    fn each_row_is_reached_under_each_opening() {
+        for opening in Opening::ALL {
+            let own: Vec<_> = all().into_iter().filter(|case| case.bytes.starts_with(&opening.bytes())).collect();
+            let verdicts: Vec<_> = own.iter().map(|case| read(&case.bytes).err()).collect();
+            for row in (2..=13).chain([15]).chain(opening.has_weak().then_some(16)) {
+                assert!(verdicts.contains(&Some(row)), "{opening:?}: {row}");
+            }
+            assert!(verdicts.contains(&None), "{opening:?}");
+        }
+    }
+
+    #[test]
+    fn the_largest_record_has_8211_bytes() {
+        for (opening, bytes, numbers) in [(One, 8_207, 3_077), (Two, 8_211, 3_078)] {
+            let longest = SHAPES.map(|(streams, bits)| parts::longest(opening, streams as i64, bits as i64));
+            assert_eq!(longest.iter().map(|record| record.bytes().len()).max(), Some(bytes));
+            assert_eq!(longest.iter().map(|record| record.count()).max(), Some(numbers));
+        }
+        assert_eq!((longest_record().len(), MOST_BYTES, MOST_NUMBERS), (8_211, 8_211, 3_078));
     }
 
     /// M, in its range, and Q are refused alone where no pair has them.

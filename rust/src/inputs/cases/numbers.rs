@@ -2,18 +2,20 @@
 
 use super::parts::{largest, small, Parts};
 use super::{accepted, refused, Case, Intent, GREATEST, OVER_LONG};
-use crate::format::encoding::{Place, OPENING};
-use crate::inputs::numbers::{range, row};
+use crate::format::encoding::{Opening, Place};
+use crate::format::record::MOST_BYTES;
+use crate::inputs::numbers::row;
 
 /// Rows 9 to 12: every number of the vectors at both ends of its range and beyond them.
 pub fn range_ends(of: &str, record: &Parts) -> Vec<Case> {
-    (5..record.count()).flat_map(|at| range_ends_at(of, record, at)).collect()
+    let sizes = record.opening.sizes().len();
+    (sizes..record.count()).flat_map(|at| range_ends_at(of, record, at)).collect()
 }
 
 /// One number at both ends of its range and beyond them, next to them and as far as four groups reach.
 fn range_ends_at(of: &str, record: &Parts, at: usize) -> Vec<Case> {
     let place = record.places[at];
-    let (least, greatest) = range(place, 1);
+    let (least, greatest) = record.ranges[at];
     let with = |number: i64, intent: Intent| {
         let about = format!("{of}: number {} ({place:?}) is {number}", at + 1);
         Case { about, bytes: record.with_number(at, number).bytes(), intent }
@@ -32,7 +34,8 @@ fn range_ends_at(of: &str, record: &Parts, at: usize) -> Vec<Case> {
     ]
 }
 
-/// Rows 2 to 13 in a record of several streams and two vectors, each at the first and the last place where it can occur.
+/// Rows 2 to 13, and 16 where there is W, in a record of several streams and two vectors, each at the first and the last place where it
+/// can occur.
 pub fn rows_of_the_table(of: &str, record: &Parts) -> Vec<Case> {
     let last = record.count() - 1;
     let about = |what: &str| format!("{of}: {what}");
@@ -52,36 +55,43 @@ pub fn rows_of_the_table(of: &str, record: &Parts) -> Vec<Case> {
         refused(about("row 13: the record again"), record.bytes_and(&record.bytes()), 13),
     ];
     let whole = accepted(about("whole"), record.bytes());
-    [whole].into_iter().chain(malformed).chain(Place::all().flat_map(beyond)).collect()
+    [whole].into_iter().chain(malformed).chain(Place::all(record.opening).flat_map(beyond)).collect()
 }
 
-/// The largest record: whole, a byte less, a byte more, and turned back at the last place of each row that has one there.
-pub fn largest_record() -> Vec<Case> {
-    let record = largest();
-    let whole = record.bytes();
+/// The largest records: whole and with a byte more; that with W also a byte less, and turned back at its last prior.
+pub fn largest_records() -> Vec<Case> {
+    let whole = |record: &Parts| {
+        let about = format!("largest of opening {}", record.opening.number());
+        [refused(format!("{about} and a byte"), record.bytes_and(&[0x00]), 13), accepted(about, record.bytes())]
+    };
+    let record = largest(Opening::Two);
     let last = record.count() - 1;
+    let turned_back = [
+        refused("largest less a byte".to_string(), record.bytes()[..MOST_BYTES - 1].to_vec(), 2),
+        refused("largest, last prior over-long".to_string(), record.with(last, &OVER_LONG).bytes(), 3),
+        refused("largest, last prior out of range".to_string(), record.with_beyond(last).bytes(), 12),
+    ];
+    Opening::ALL.into_iter().flat_map(|opening| whole(&largest(opening))).chain(turned_back).collect()
+}
+
+/// Rows 9 to 12 in a record of 64 vectors, each at the last place where it can occur.
+pub fn last_places(record: &Parts) -> Vec<Case> {
     let beyond = |place: Place| {
         let at = record.last_place(place);
-        refused(format!("largest: number {} ({place:?})", at + 1), record.with_beyond(at).bytes(), row(place))
+        refused(format!("64 vectors: number {} ({place:?})", at + 1), record.with_beyond(at).bytes(), row(place))
     };
-    let ends = [
-        accepted("largest".to_string(), whole.clone()),
-        refused("largest less a byte".to_string(), whole[..whole.len() - 1].to_vec(), 2),
-        refused("largest less its last prior".to_string(), record.first(last), 2),
-        refused("largest, last prior over-long".to_string(), record.with(last, &OVER_LONG).bytes(), 3),
-        refused("largest and a byte".to_string(), record.bytes_and(&[0x00]), 13),
-    ];
-    ends.into_iter().chain(Place::OF_VECTORS.map(beyond)).collect()
+    Place::OF_VECTORS.map(beyond).into()
 }
 
 /// Rows 2 and 3: every form of a number, at M, C and D, at the first diagonal and at the last prior, and at the record's end.
 pub fn number_forms() -> Vec<Case> {
-    let record = small();
+    let record = small(Opening::One);
     let last = record.count() - 1;
     [0, 3, 4, 5, last].into_iter().flat_map(|at| malformed_forms(&record, at)).collect()
 }
 
-fn malformed_forms(record: &Parts, at: usize) -> Vec<Case> {
+/// The same at a number of this record.
+pub fn malformed_forms(record: &Parts, at: usize) -> Vec<Case> {
     let forms: [&[u8]; 10] = [
         &[0x80, 0x00],
         &[0xFF, 0x00],
@@ -112,7 +122,7 @@ fn malformed_forms(record: &Parts, at: usize) -> Vec<Case> {
 pub fn cuts(of: &str, record: &Parts) -> Vec<Case> {
     let bytes = record.bytes();
     let cut = |length: usize| refused(format!("{of} cut to {length} bytes"), bytes[..length].to_vec(), 2);
-    (OPENING.len()..bytes.len()).map(cut).collect()
+    (Opening::LENGTH..bytes.len()).map(cut).collect()
 }
 
 /// Row 3 at every number.

@@ -4,9 +4,10 @@ use super::parts::Parts;
 use super::{refused, Case, OVER_LONG};
 use crate::inputs::numbers::row;
 
-/// Two faults in one record, in neighbouring numbers and far apart: the earlier decides.
-pub fn order_of_checks(record: &Parts) -> Vec<Case> {
-    (0..record.count() - 1).flat_map(|at| two_faults(record, at)).collect()
+/// Two faults in one record, in neighbouring numbers and far apart: the earlier decides. The earlier is one of the first, as many as
+/// `count`.
+pub fn order_of_checks(record: &Parts, count: usize) -> Vec<Case> {
+    (0..count).flat_map(|at| two_faults(record, at)).collect()
 }
 
 fn two_faults(record: &Parts, at: usize) -> Vec<Case> {
@@ -31,11 +32,11 @@ fn two_faults(record: &Parts, at: usize) -> Vec<Case> {
 /// Two faults of which one is the opening or the end.
 pub fn ends_of_checks(record: &Parts) -> Vec<Case> {
     let last = record.count() - 1;
-    let wrong_opening = |parts: Parts| [vec![0x43, 0x42, 0x52, 0x32], parts.bytes()[4..].to_vec()].concat();
+    let wrong_opening = |parts: Parts| [vec![0x43, 0x42, 0x52, 0x30], parts.bytes()[4..].to_vec()].concat();
     vec![
         refused("wrong opening, M out of range".to_string(), wrong_opening(record.with_beyond(0)), 1),
         refused("wrong opening, M over-long".to_string(), wrong_opening(record.with(0, &OVER_LONG)), 1),
-        refused("wrong opening, nothing after it".to_string(), vec![0x43, 0x42, 0x52, 0x32], 1),
+        refused("wrong opening, nothing after it".to_string(), vec![0x43, 0x42, 0x52, 0x30], 1),
         refused("last prior out of range, a byte more".to_string(), record.with_beyond(last).bytes_and(&[0]), 12),
         refused("last prior over-long, a byte more".to_string(), record.with(last, &OVER_LONG).bytes_and(&[0]), 3),
         refused("last prior of five groups".to_string(), record.with(last, &[0x80, 0x80, 0x80, 0x80, 0x01]).bytes(), 3),

@@ -1,19 +1,24 @@
 //! The records that cases start from, as parts of which one or more can be exchanged.
 
-use crate::format::encoding::{parts, places, Numbers, Place, OPENING};
+use crate::format::encoding::{Contents, Opening, Place};
 use crate::inputs::chance::Chance;
-use crate::inputs::numbers::{numbers_by_chance, range};
+use crate::inputs::numbers::{contents_by, contents_by_chance, range};
 
 /// A record as its numbers' bytes, one part for each number, so that one can be exchanged.
 #[derive(Clone)]
 pub struct Parts {
+    pub opening: Opening,
     pub places: Vec<Place>,
+    /// The ranges of the numbers, that of W by the C that stood there at first.
+    pub ranges: Vec<(i64, i64)>,
     parts: Vec<Vec<u8>>,
 }
 
 impl Parts {
-    pub fn of(numbers: &[i64]) -> Parts {
-        Parts { places: places(numbers[0], numbers[1], numbers[2]), parts: parts(numbers) }
+    pub fn of(contents: &Contents) -> Parts {
+        let places = contents.places();
+        let ranges = places.iter().map(|&place| range(place, &contents.numbers)).collect();
+        Parts { opening: contents.opening, places, ranges, parts: contents.parts() }
     }
 
     pub fn count(&self) -> usize {
@@ -34,7 +39,7 @@ impl Parts {
 
     /// The same with a number one above its range (for Q, which has gaps too, above the last).
     pub fn with_beyond(&self, at: usize) -> Parts {
-        self.with_number(at, range(self.places[at], 1).1 + 1)
+        self.with_number(at, self.ranges[at].1 + 1)
     }
 
     /// The opening and the first numbers, as many as `count`.
@@ -44,7 +49,7 @@ impl Parts {
 
     /// The same and other bytes behind.
     pub fn first_and(&self, count: usize, more: &[u8]) -> Vec<u8> {
-        [&OPENING, self.parts[..count].concat().as_slice(), more].concat()
+        [&self.opening.bytes(), self.parts[..count].concat().as_slice(), more].concat()
     }
 
     pub fn bytes(&self) -> Vec<u8> {
@@ -65,42 +70,40 @@ impl Parts {
 }
 
 /// Two streams of two bits, two vectors.
-pub fn small() -> Parts {
-    Parts::of(&numbers_by_chance(&mut Chance(2), 2, 2, 2))
+pub fn small(opening: Opening) -> Parts {
+    by_chance(2, opening, 2, 2, 2)
 }
 
 /// Four streams of six bits, one vector.
-pub fn wide() -> Parts {
-    Parts::of(&numbers_by_chance(&mut Chance(4), 4, 6, 1))
-}
-
-/// The record of the most bytes: four streams of six bits.
-pub fn largest() -> Parts {
-    longest(4, 6)
-}
-
-/// The longest record of M and Q: 64 vectors, each number as long as it can be in its range.
-pub fn longest(streams: i64, bits: i64) -> Parts {
-    let mut chance = Chance(64);
-    let long = |place: &Place| {
-        let sign = 1 - 2 * chance.between(0, 1);
-        match place {
-            Place::Streams => streams,
-            Place::Bits => bits,
-            Place::Vectors => 64,
-            Place::Clip => 16_777_215,
-            Place::Share => 17_043_520,
-            Place::Diagonal => chance.between(128, 2_047),
-            Place::Right => sign * chance.between(65, 2_047),
-            Place::Received => sign * chance.between(8_193, 131_071),
-            Place::Prior => sign * chance.between(8_193, 1_048_575),
-        }
-    };
-    Parts::of(&places(streams, bits, 64).iter().map(long).collect::<Numbers>())
+pub fn wide(opening: Opening) -> Parts {
+    by_chance(4, opening, 4, 6, 1)
 }
 
 /// A record of these sizes whose vectors are made by chance.
-pub fn sized(streams: i64, bits: i64, vectors: i64) -> Parts {
-    let seed = (streams * 10_000 + bits * 100 + vectors) as u64;
-    Parts::of(&numbers_by_chance(&mut Chance(seed), streams, bits, vectors))
+pub fn sized(opening: Opening, streams: i64, bits: i64, vectors: i64) -> Parts {
+    by_chance((streams * 10_000 + bits * 100 + vectors) as u64, opening, streams, bits, vectors)
+}
+
+fn by_chance(seed: u64, opening: Opening, streams: i64, bits: i64, vectors: i64) -> Parts {
+    Parts::of(&contents_by_chance(&mut Chance(seed), opening, (streams, bits, vectors)))
+}
+
+/// The record of the most bytes: four streams of six bits.
+pub fn largest(opening: Opening) -> Parts {
+    longest(opening, 4, 6)
+}
+
+/// The longest record of M and Q: 64 vectors, each number as long as it can be in its range.
+pub fn longest(opening: Opening, streams: i64, bits: i64) -> Parts {
+    let mut chance = Chance(64);
+    let long = |place: Place, (_, greatest): (i64, i64)| {
+        let mut signed = |least: i64| (1 - 2 * chance.between(0, 1)) * chance.between(least, greatest);
+        match place {
+            Place::Diagonal => chance.between(128, greatest),
+            Place::Right => signed(65),
+            Place::Received | Place::Prior => signed(8_193),
+            _ => greatest,
+        }
+    };
+    Parts::of(&contents_by(opening, (streams, bits, 64), long))
 }

@@ -20,6 +20,10 @@ returns-2 : tie.Need-returns-2
 unfolding runsOf
 returns-2 c = rw (c .enum-told2 .given .1)
 
+returns-3 : tie.Need-returns-3
+unfolding runsOf
+returns-3 c = rw (c .enum-told3 .given .1)
+
 pub run-count-spec : {M : Type 1} → statement M
 run-count-spec =
     tie.close
@@ -27,8 +31,10 @@ run-count-spec =
     (λ c. search needs)
     (λ c. search needs)
     (λ c. search needs)
+    (λ c. search needs)
     (λ c. omega (arith, streams c))
     (λ c. omega (arith, streams c))
     returns
     returns-2
+    returns-3
     (λ c. rw (c .before .part .given .1) (sym (vector-runs _ _))))

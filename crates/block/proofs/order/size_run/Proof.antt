@@ -1,14 +1,18 @@
 -- Each arm is an entry of the list.
-use mathlib.Core.Path.{_≡_}
+use mathlib.Core.Path.{_≡_, ap}
 use native.Mathlib.Omega.{arith}
+use lib.IntN.{ℤ}
 use mir.Facts.{toZ-ofZ}
-use Rattle.block.specs.Reading.{runsOf}
+use Rattle.block.specs.Reading.{run, runsOf}
+use Rattle.refusals.specs.declared.Kind.the-variants.{SymbolWidth}
 use Rattle.block.proofs.order.size_run.Statement.{statement}
 use Rattle.block.proofs.order.size_run.Tie as tie
 
 returns : tie.Need-returns
 unfolding runsOf
-returns c = let e : c .before .args .i ≡ 0 = omega arith in let f = c .before .fits .m in rw (e, toZ-ofZ f)
+returns c =
+    let e : c .before .args .i ≡ 0 = omega arith in
+    rw e (ap (λ (z : ℤ). run (SymbolWidth z) 1) (toZ-ofZ (c .before .fits .m)))
 
 returns-2 : tie.Need-returns-2
 unfolding runsOf
@@ -18,9 +22,5 @@ returns-3 : tie.Need-returns-3
 unfolding runsOf
 returns-3 c = let e : c .before .args .i ≡ 2 = omega arith in rw e
 
-returns-4 : tie.Need-returns-4
-unfolding runsOf
-returns-4 c = let e : c .before .args .i ≡ 3 = omega arith in let f = c .before .fits .m in rw (e, toZ-ofZ f)
-
 pub size-run-spec : {M : Type 1} → statement M
-size-run-spec = tie.close (tie.spec returns returns-2 returns-3 returns-4)
+size-run-spec = tie.close (tie.spec returns returns-2 returns-3)

@@ -4,7 +4,7 @@ use mathlib.Core.Path.{_≡_, sym, ap, _∙_}
 use mir.Syntax.{w32}
 use mir.Facts.{toZ-ofZ}
 use mir.Val.{SFits}
-use Rattle.block.specs.Table.{allowed}
+use Rattle.refusals.specs.Table.{allowed}
 use Rattle.block.specs.Reading.{wholeOf}
 use Rattle.block.proofs.Reading.{by-taken, by-turned}
 use Rattle.block.proofs.reader.ranged.Statement.{statement}

@@ -2,7 +2,7 @@
 use mathlib.Core.Path.{_≡_, sym, _∙_}
 use Prim.Native.Nat.{_≤_, _-_, _+_, _*_}
 use native.Mathlib.Omega.{arith}
-use Rattle.block.specs.Reading.{vectorSize, vectorsAt, into, mostNumbers}
+use Rattle.block.specs.Reading.{vectorSize, vectorKinds, numbersAt, into, mostNumbers}
 use Rattle.block.proofs.Runs.{vector-numbers}
 use Rattle.block.proofs.Parts.{rest-none, rest-room, rest-ended, rest-refused}
 use Rattle.block.proofs.reader.read_vectors.Statement.{statement}
@@ -11,7 +11,7 @@ use Rattle.block.proofs.reader.read_vectors.Tie as tie
 abbrev Inv-loop : tie.InvT-loop
 Inv-loop bytes at m q n numbers₀ from size place₀ to₀ k₀ numbers place to k =
     (size ≡ vectorSize m q) × (k ≤ n) × (to + (n - k) * vectorSize m q ≤ mostNumbers)
-    × (into from (vectorsAt n m q bytes at) numbers₀ ≡ into to (vectorsAt (n - k) m q bytes place) numbers)
+    × (into from (numbersAt (vectorKinds n m q) bytes at) numbers₀ ≡ into to (numbersAt (vectorKinds (n - k) m q) bytes place) numbers)
 
 abbrev μ-loop : tie.MeasureT-loop
 μ-loop bytes at m q n numbers₀ from size place₀ to₀ k₀ numbers place to k = n - k
