@@ -1,5 +1,5 @@
--- Demand 1, from document 01, "Where a record is turned back", with document 02's rows: the conditions under which a call refuses; where none holds, it accepts.
--- Demands 2 and 3, of what the bytes of its reply say.
+-- Demand 1, from document 01, "Where a record is turned back", with document 02's rows: the conditions under which a call refuses; where
+-- none holds, it accepts. Demands 2 and 3, of what the bytes of its reply say.
 use Prim.Native.Nat.{ℕ, _≤_, _<_}
 use mathlib.Core.Path.{_≡_}
 use mathlib.Core.Bool.{false}

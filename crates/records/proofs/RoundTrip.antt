@@ -1,5 +1,6 @@
 -- Document 02, Point 2: "The reader on a written record returns the very numbers, and each accepted record is the one that the writer makes
--- from what was read", told the record's own opening. Number by number: what is written of one is read as that one, and what is read as one is what writing it makes.
+-- from what was read", told the record's own opening. Number by number: what is written of one is read as that one, and what is read as
+-- one is what writing it makes.
 use Prim.Native.Nat.{ℕ, _+_, _≤_}
 use mathlib.Core.Path.{_≡_, refl, sym, _∙_, ap, ap₂, subst}
 use mathlib.Core.Bool.{Bool, true, false, cond, _&&_, true≢false}

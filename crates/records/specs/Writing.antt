@@ -26,8 +26,8 @@ pub data Verdict : Type 0 where
   fine : Verdict
   turned : Refusal → Verdict
 
--- A list's numbers, one after the other, against the kinds that are called for: "4 to 12 and 15", with Point 4's 16, "in record order, 2 where the list ends early, 13
--- where it goes on". The first check that fails decides
+-- A list's numbers, one after the other, against the kinds that are called for: "4 to 12 and 15", with Point 4's 16, "in record order, 2
+-- where the list ends early, 13 where it goes on". The first check that fails decides
 unfoldable pub checked : List Kind → List ℤ → Verdict
 checked [] [] = fine
 checked [] (z ∷ zs) = turned Trailing
@@ -64,7 +64,7 @@ openingNumber Weakened = 2
 
 -- The layout that a number tells
 unfoldable pub toldBy : ℕ → Told
-toldBy number = cond (eqb number 1) (Known Base) (cond (eqb number 2) (Known Weakened) Unknown)
+toldBy number = cond (eqb number (openingNumber Base)) (Known Base) (cond (eqb number (openingNumber Weakened)) (Known Weakened) Unknown)
 
 -- "(1 if unknown)", whatever the list and the buffer are
 abbrev pub byTold : List ℤ → ℕ → Told → Filling ℕ

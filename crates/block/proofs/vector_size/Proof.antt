@@ -1,5 +1,6 @@
 -- A vector's numbers are few at the largest M and Q.
 use Prim.Native.Nat.{_*_, _≤_}
+use mathlib.Core.Path.{refl}
 use native.Mathlib.Nat.{mul-le-mul}
 use native.Mathlib.Omega.{arith}
 use borrow.Author.Needs.{needs}
@@ -22,4 +23,4 @@ vector-size-spec =
     (λ c. omega (arith, squares c, c .pre .0))
     (λ c. omega (arith, priors c))
     (λ c. omega (arith, squares c, priors c, c .pre .0))
-    (λ c. search needs))
+    (λ c. refl))
