@@ -123,9 +123,9 @@ module _ (l : tie.After-least-opposite Inv-loop μ-loop) where
       l .least-opposite .result ≡ reachedBy (a .diagonal) (a .w) (a .other) (a .low) (a .own) (turn m .before .loop .i) (x m)
   reached-is =
       let a = begin m .args in
-      l .least-opposite .ensures
-      ∙ ap₂ (λ (b : Bool) (n : ℕ). cond (Bool·beq (ltZ (x m) (pos 0)) b) (a .low) (a .other + (n + a .diagonal) * (n + a .diagonal)))
-      (m .before .bit-at .ensures) (m .magnitude .ensures)
+      let least : Bool → ℕ → ℕ = λ b n. cond (Bool·beq (ltZ (x m) (pos 0)) b) (a .low) (a .other + (n + a .diagonal) * (n + a .diagonal)) in
+      let e : l .least-opposite .result ≡ least (m .before .bit-at .result) (size m) = l .least-opposite .ensures in
+      e ∙ ap₂ least (m .before .bit-at .ensures) (m .magnitude .ensures)
 
   place-is : let a = begin m .args in
       let i = turn m .before .loop .i in

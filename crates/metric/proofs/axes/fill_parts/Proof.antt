@@ -1,13 +1,16 @@
 -- One axis, then the other.
 use borrow.Author.Needs.{needs}
-use mathlib.Core.Path.{ap, _∙_}
+use Prim.Native.Nat.{ℕ, _^_}
+use mathlib.Core.List.{List}
+use mathlib.Core.Path.{_≡_, ap, _∙_}
 use native.Mathlib.Omega.{arith}
+use lib.IntN.{ℤ}
 use mir.Syntax.{w64}
 use mir.Val.{SFits}
 use mir.Facts.{toZ-ofZ}
 use Rattle.integers.proofs.Fits.{sfits-abs}
-use Rattle.metric.specs.Parts.{filledFrom}
-use Rattle.metric.specs.Tables.{partsIn}
+use Rattle.metric.specs.Parts.{span, filledFrom}
+use Rattle.metric.specs.Tables.{axisBits, axisPlace, partsIn, tablePart}
 use Rattle.metric.specs.Tables.Axis.{real, imaginary}
 use Rattle.metric.proofs.Bridge.{axis-asked}
 use Rattle.metric.proofs.axes.fill_parts.Statement.{statement}
@@ -32,14 +35,21 @@ imaginary-asked c κs =
     let f = im-fits s in
     (simp toZ-ofZ (axis-asked (s .pre .0) (s .args .row) (s .pre .2) (s .pre .1) imaginary (s .args .left .im) (s .pre .4)), omega arith)
 
-returns : tie.Need-returns
+-- One axis filled in, then the other
+both : (q : ℕ) (tables : List ℤ) (i : ℕ) (re im : ℤ) (axes mid new : List ℕ)
+    → mid ≡ filledFrom 0 (tablePart tables (axisPlace i real) re) (2 ^ axisBits q real) axes
+    → new ≡ filledFrom span (tablePart tables (axisPlace i imaginary) im) (2 ^ axisBits q imaginary) mid → new ≡ partsIn q tables i re im axes
 unfolding partsIn
+both q tables i re im axes mid new e f = f ∙ ap (filledFrom span _ _) e
+
+returns : tie.Need-returns
 returns c =
     let a = c .before .before .before in
     let s = a .before .before .before in
     let f = re-fits s in
     let g = im-fits s in
-    simp toZ-ofZ at (c .fill-axis2 .ensures) ∙ ap (filledFrom _ _ _) (simp toZ-ofZ at (a .fill-axis .ensures))
+    both (s .args .task .width) (s .args .tables .now) (s .args .row) (s .args .left .re) (s .args .left .im) (s .args .axes .now) _ _
+    (simp toZ-ofZ at (a .fill-axis .ensures)) (simp toZ-ofZ at (c .fill-axis2 .ensures))
 
 pub fill-parts-spec : {M : Type 1} → statement M
 fill-parts-spec =
