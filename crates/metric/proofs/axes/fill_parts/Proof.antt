@@ -1,5 +1,4 @@
 -- One axis, then the other.
-use borrow.Author.Needs.{needs}
 use Prim.Native.Nat.{ℕ, _^_}
 use mathlib.Core.List.{List}
 use mathlib.Core.Path.{_≡_, ap, _∙_}
@@ -55,11 +54,11 @@ pub fill-parts-spec : {M : Type 1} → statement M
 fill-parts-spec =
     tie.close
     (tie.spec
-    (λ c. search needs)
-    (λ c. search needs)
-    (λ c. search needs)
+    (λ c. omega arith)
+    (λ c. omega arith)
+    (λ c. omega arith)
     real-asked
-    (λ c. search needs)
-    (λ c. search needs)
+    (λ c. omega arith)
+    (λ c. omega arith)
     imaginary-asked
     returns)

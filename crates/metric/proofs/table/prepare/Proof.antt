@@ -1,11 +1,13 @@
 -- The invariant: the table is that with the rows so far.
-use borrow.Author.Needs.{needs, sfits-of}
-use mathlib.Core.Path.{_≡_, refl, ap}
+use borrow.Author.Needs.{sfits-of}
+use mathlib.Core.Path.{_≡_, refl, ap, _∙_}
 use Prim.Native.Nat.{ℕ, _+_, _-_, _*_, _/_, _%_, _^_, _≤_}
 use native.Mathlib.Omega.{arith}
+use lib.IntN.{pos}
+use lib.ListN.{getD}
 use lib.Pow.{pow-mono}
 use mir.Syntax.{w64}
-use mir.Val.{SFits}
+use mir.Val.{toZ, ofZ}
 use mir.Facts.{toZ-ofZ}
 use Rattle.metric.specs.Parts.{axisWidth}
 use Rattle.metric.specs.Rows.{rowStart, priorStart}
@@ -52,39 +54,37 @@ few c =
 square : (c : tie.In-loop Inv-loop μ-loop) → c .before .before .args .task .streams * c .before .before .args .task .streams ≤ 16
 square c = square-few (c .before .before .pre .0) (c .before .loop .row) (c .loop-test .taken)
 
-diagonal-fits : (c : tie.After-element Inv-loop μ-loop) → SFits w64 (c .element .result)
-diagonal-fits c = sfits-of (c .element .ok)
+-- The diagonal entry as the program holds it
+diagonal-is : (c : tie.After-element Inv-loop μ-loop)
+    → let a = c .before .before .before .args in
+    toZ w64 (ofZ w64 (c .element .result)) ≡ getD (a .numbers .now) (rowStart (a .task .streams) (c .before .before .loop .row)) (pos 0)
+diagonal-is c = toZ-ofZ (sfits-of (c .element .ok)) ∙ c .element .ensures
 
 real-asked : tie.Need-fill-entries-requires Inv-loop μ-loop
 real-asked c κs =
     let i = c .before .before in
-    let s = i .before .before in
-    let f = diagonal-fits (c .before) in (
+    let s = i .before .before in (
       real-amplitudes (s .pre .2) (s .pre .0 .bits) _ (ap (λ (n : ℕ). 2 * n) (step s)),
-      simp toZ-ofZ (entries-asked (s .pre .0) (i .before .loop .row) (i .loop-test .taken) real _ (c .before .element .ensures)),
+      entries-asked (s .pre .0) (i .before .loop .row) (i .loop-test .taken) real _ (diagonal-is (c .before)),
     )
 
 imaginary-asked : tie.Need-fill-entries-requires-2 Inv-loop μ-loop
 imaginary-asked c κs =
     let e = c .before .before .before .before in
     let i = e .before in
-    let s = i .before .before in
-    let f = diagonal-fits e in (
+    let s = i .before .before in (
       imaginary-amplitudes (s .pre .2) (s .pre .0 .bits),
-      simp toZ-ofZ (entries-asked (s .pre .0) (i .before .loop .row) (i .loop-test .taken) imaginary _ (e .element .ensures)),
+      entries-asked (s .pre .0) (i .before .loop .row) (i .loop-test .taken) imaginary _ (diagonal-is e),
     )
 
 loop-again : tie.Need-loop-again Inv-loop μ-loop
 loop-again c =
     let e = c .before .before .before .before .before in
     let i = e .before in
-    let s = i .before .before in
-    let f = diagonal-fits e in (
+    let s = i .before .before in (
       omega (arith, i .loop-test .taken),
-      rows-more _ _ _ (s .args .tables .now) _ (i .before .loop .row) (i .before .loop .inv .1) (e .element .result) _ _
-          (e .element .ensures)
-          (simp toZ-ofZ at (c .before .before .before .fill-entries .ensures))
-          (simp toZ-ofZ at (c .fill-entries2 .ensures)),
+      rows-more _ _ _ (s .args .tables .now) _ (i .before .loop .row) (i .before .loop .inv .1) _ _ _ (diagonal-is e)
+          (c .before .before .before .fill-entries .ensures) (c .fill-entries2 .ensures),
     )
 
 returns : tie.Need-returns Inv-loop μ-loop
@@ -111,11 +111,11 @@ prepare-spec =
     (λ c. omega (arith, few (c .before) .2))
     (λ c. omega (arith, few (c .before) .2))
     (λ c. omega (arith, few (c .before) .2))
-    (λ c. search needs)
+    (λ c. omega arith)
     (λ c. omega (arith, few (c .before) .0, c .before .loop-test .taken))
     real-asked
     (λ c. let i = c .before .before .before .before in omega (arith, few i .2, few i .3))
-    (λ c. search needs)
+    (λ c. omega arith)
     (λ c. let i = c .before .before .before .before in omega (arith, few i .0, i .loop-test .taken))
     imaginary-asked
     (λ c. let i = c .before .before .before .before .before .before in omega (arith, few i .0, i .loop-test .taken))
