@@ -1,5 +1,5 @@
 -- The two places are within the table, and the bits of what stands there say whether it is 0.
-use borrow.Author.Needs.{needs, sfits-of}
+use borrow.Author.Needs.{sfits-of}
 use borrow.Author.Tests.{eq-eqb, ne-eqb}
 use Prim.Native.Nat.{_+_, _-_, _*_, _%_, _^_, _≤_}
 use mathlib.Core.Path.{_≡_, ap, sym, _∙_}
@@ -43,11 +43,11 @@ pub axis-priced-spec : {M : Type 1} → statement M
 axis-priced-spec =
     tie.close
     (tie.spec
-    (λ c. search needs)
+    (λ c. omega arith)
     (λ c. omega (arith, count c))
-    (λ c. search needs)
-    (λ c. search needs)
-    (λ c. search needs)
+    (λ c. omega arith)
+    (λ c. omega arith)
+    (λ c. omega arith)
     (λ c. omega (arith, count (c .before .before)))
     (λ c. omega (arith, count (c .before .before)))
     (λ c. omega (arith, count (c .before .before)))

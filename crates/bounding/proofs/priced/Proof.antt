@@ -1,6 +1,7 @@
 -- One axis, then the other.
 use borrow.Author.Needs.{needs}
 use mathlib.Core.Path.{sym, _∙_}
+use native.Mathlib.Omega.{arith}
 use Rattle.bounding.specs.Axes.{pricedBy}
 use Rattle.bounding.proofs.Costs.{first-met, second-left}
 use Rattle.bounding.proofs.priced.Statement.{statement}
@@ -18,12 +19,12 @@ pub priced-spec : {M : Type 1} → statement M
 priced-spec =
     tie.close
     (tie.spec
-    (λ c. search needs)
-    (λ c. search needs)
-    (λ c. search needs)
+    (λ c. omega arith)
+    (λ c. omega arith)
+    (λ c. omega arith)
     (λ c κs. search needs)
-    (λ c. search needs)
-    (λ c. search needs)
+    (λ c. omega arith)
+    (λ c. omega arith)
     (λ c κs. search needs)
     returns
     returns-2)

@@ -1,7 +1,7 @@
 -- The answer is put together from the nearest distances of both axes and what is asked of each.
-use borrow.Author.Needs.{needs, sfits-of}
+use borrow.Author.Needs.{sfits-of}
 use Prim.Native.Nat.{ℕ, _+_, _-_, _*_, _/_, _%_, _^_, _≤_, _<_}
-use mathlib.Core.Path.{_≡_, sym, _∙_, ap, subst}
+use mathlib.Core.Path.{_≡_, sym, _∙_, ap, ap₂, subst}
 use mathlib.Core.Bool.{Bool, false, _&&_}
 use mathlib.Core.Logic.{⊎-elim}
 use native.Mathlib.Omega.{arith}
@@ -10,12 +10,12 @@ use lib.IntN.{ℤ, pos, natAbs}
 use lib.ListN.{getD}
 use lib.Signed.{nonNeg}
 use mir.Syntax.{w64}
-use mir.Val.{SFits}
-use mir.Facts.{toZ-ofZ, fits-natAbs}
+use mir.Val.{SFits, toZ, ofZ}
+use mir.Facts.{toZ-ofZ}
 use Rattle.integers.proofs.Fits.{sfits-abs}
 use Rattle.model.specs.Block.{mostEntry}
 use Rattle.model.proofs.Numbers.{first-half}
-use Rattle.metric.specs.Parts.{span, nearestOf}
+use Rattle.metric.specs.Parts.{span, nearestOf, remainderBound}
 use Rattle.metric.specs.Rows.{rowStart}
 use Rattle.metric.specs.Tables.{Axis, axisBits}
 use Rattle.metric.specs.Tables.Axis.{real, imaginary}
@@ -42,46 +42,54 @@ re-fits s = sfits-abs _ (omega (arith, s .pre .low-re))
 im-fits : (s : tie.Start) → SFits w64 (s .args .left .im)
 im-fits s = sfits-abs _ (omega (arith, s .pre .low-im))
 
+-- as the program holds it
+abbrev left-re : tie.Start → ℤ
+left-re s = toZ w64 (ofZ w64 (s .args .left .re))
+
+abbrev left-im : tie.Start → ℤ
+left-im s = toZ w64 (ofZ w64 (s .args .left .im))
+
+low-re : (s : tie.Start) → natAbs (left-re s) < remainderBound
+low-re s = subst (λ (z : ℤ). natAbs z < remainderBound) (sym (toZ-ofZ (re-fits s))) (s .pre .low-re)
+
+low-im : (s : tie.Start) → natAbs (left-im s) < remainderBound
+low-im s = subst (λ (z : ℤ). natAbs z < remainderBound) (sym (toZ-ofZ (im-fits s))) (s .pre .low-im)
+
 -- The diagonal entry
 abbrev begin : tie.After-element → tie.Start
 begin c = c .before .before .before
 
-diagonal-fits : (c : tie.After-element) → SFits w64 (c .element .result)
-diagonal-fits c = sfits-of (c .element .ok)
+abbrev held : tie.After-element → ℤ
+held c = toZ w64 (ofZ w64 (c .element .result))
 
-diagonal-is : (c : tie.After-element)
+held-is : (c : tie.After-element)
     → let a = begin c .args in
-    c .element .result ≡ getD (a .numbers .now) (rowStart (a .task .streams) (a .row)) (pos 0)
-diagonal-is c = c .element .ensures
+    held c ≡ getD (a .numbers .now) (rowStart (a .task .streams) (a .row)) (pos 0)
+held-is c = toZ-ofZ (sfits-of (c .element .ok)) ∙ c .element .ensures
 
-plain : (c : tie.After-element) → T (nonNeg (c .element .result))
+plain : (c : tie.After-element) → T (nonNeg (held c))
 plain c =
     let s = begin c in
-    subst (λ (z : ℤ). T (nonNeg z)) (sym (diagonal-is c ∙ s .pre .vector .plain (s .args .row) (s .pre .inside))) tt
+    subst (λ (z : ℤ). T (nonNeg z)) (sym (held-is c ∙ s .pre .vector .plain (s .args .row) (s .pre .inside))) tt
 
-cast-diagonal : tie.Need-cast-diagonal
-cast-diagonal c = let f = diagonal-fits c in simp toZ-ofZ (plain c, fits-natAbs tt f)
-
-within : (c : tie.After-element) → natAbs (c .element .result) ≤ mostEntry
+within : (c : tie.After-element) → natAbs (held c) ≤ mostEntry
 within c =
     let s = begin c in
-    omega (arith, ap natAbs (diagonal-is c), diagonal-within (s .pre .vector) (s .args .row) (s .pre .inside))
+    omega (arith, ap natAbs (held-is c), diagonal-within (s .pre .vector) (s .args .row) (s .pre .inside))
+
+cast-diagonal : tie.Need-cast-diagonal
+cast-diagonal c = (plain c, omega (arith, within c))
 
 re-asked : tie.Need-nearest-requires
 re-asked c κs =
-    let d = c .before in
-    let s = begin d in
-    let e = diagonal-fits d in
-    let f = re-fits s in
-    simp toZ-ofZ (s .pre .low-re, within d, omega (arith, s .pre .vector .bits))
+    let s = begin (c .before) in
+    (low-re s, within (c .before), omega (arith, s .pre .vector .bits))
 
 im-asked : tie.Need-nearest-requires-2
 im-asked c κs =
     let d = c .before .before .before in
     let s = begin d in
-    let e = diagonal-fits d in
-    let f = im-fits s in
-    simp toZ-ofZ (s .pre .low-im, within d, omega (arith, s .pre .vector .bits))
+    (low-im s, within d, omega (arith, s .pre .vector .bits))
 
 -- The nearest distances of both axes
 module _ (c : tie.After-nearest2) where
@@ -98,22 +106,16 @@ module _ (c : tie.After-nearest2) where
   near-im = c .nearest2 .result
 
   abbrev diagonal : ℕ
-  diagonal = natAbs (entry .element .result)
+  diagonal = natAbs (held entry)
 
   stands : diagonal ≡ natAbs (getD (start .args .numbers .now) (rowStart (start .args .task .streams) (start .args .row)) (pos 0))
-  stands = ap natAbs (diagonal-is entry)
+  stands = ap natAbs (held-is entry)
 
-  re-is : near-re ≡ nearestOf diagonal (axisBits (start .args .task .width) real) (natAbs (start .args .left .re))
-  re-is =
-      let e = diagonal-fits entry in
-      let f = re-fits start in
-      simp toZ-ofZ at (c .before .before .nearest .ensures .0)
+  re-is : near-re ≡ nearestOf diagonal (axisBits (start .args .task .width) real) (natAbs (left-re start))
+  re-is = c .before .before .nearest .ensures .0
 
-  im-is : near-im ≡ nearestOf diagonal (axisBits (start .args .task .width) imaginary) (natAbs (start .args .left .im))
-  im-is =
-      let e = diagonal-fits entry in
-      let f = im-fits start in
-      simp toZ-ofZ at (c .nearest2 .ensures .0)
+  im-is : near-im ≡ nearestOf diagonal (axisBits (start .args .task .width) imaginary) (natAbs (left-im start))
+  im-is = c .nearest2 .ensures .0
 
   -- The three numbers are small enough to add
   small : (start .args .partial < 2 ^ 61) × (near-re * near-re < 2 ^ 60) × (near-im * near-im < 2 ^ 60)
@@ -133,23 +135,17 @@ real-asked : tie.Need-any-bit-of-requires
 real-asked c κs =
     let n = c .before .before .before .before in
     let s = start n in
-    let e = diagonal-fits (entry n) in
-    let f = re-fits s in
-    simp toZ-ofZ
-    (bit-asked (s .pre) (diagonal n) (stands n) real (s .args .left .re) _ (near-re n) _ _ (re-is n) (omega arith)
-    (first-half (s .args .task .width) (s .args .own) (s .pre .symbol)) _ (s .pre .low-re) (omega (arith, small n)) (omega arith))
+    bit-asked (s .pre) (diagonal n) (stands n) real (left-re s) _ (near-re n) _ _ (re-is n) (omega arith)
+    (first-half (s .args .task .width) (s .args .own) (s .pre .symbol)) _ (low-re s) (omega (arith, small n)) (omega arith)
 
 imaginary-asked : tie.Need-any-bit-of-requires-2
 imaginary-asked c κs =
     let n = c .before .before .before .before .before .before in
     let s = start n in
     let q = s .args .task .width in
-    let e = diagonal-fits (entry n) in
-    let f = im-fits s in
-    simp toZ-ofZ
-    (rw (masked q (s .args .own) (s .pre .vector .bits))
-    (bit-asked (s .pre) (diagonal n) (stands n) imaginary (s .args .left .im) _ (near-im n) _ _ (im-is n) (omega arith)
-    (imaginary-lt q (s .args .own)) _ (s .pre .low-im) (omega (arith, small n)) (omega arith)))
+    rw (masked q (s .args .own) (s .pre .vector .bits))
+    (bit-asked (s .pre) (diagonal n) (stands n) imaginary (left-im s) _ (near-im n) _ _ (im-is n) (omega arith)
+    (imaginary-lt q (s .args .own)) _ (low-im s) (omega (arith, small n)) (omega arith))
 
 -- The answers of both axes, and the places of their widest entries
 module _ (n : tie.After-nearest2) where
@@ -161,12 +157,12 @@ module _ (n : tie.After-nearest2) where
 
   abbrev any-re : Bool
   any-re =
-      anyBit (start n .args .left .re) (diagonal n) (q - q / 2) (start n .args .partial + near-im n * near-im n) low (start n .args .entries .now) 0
+      anyBit (left-re (start n)) (diagonal n) (q - q / 2) (start n .args .partial + near-im n * near-im n) low (start n .args .entries .now) 0
       (start n .args .own / 2 ^ (q / 2))
 
   abbrev any-im : Bool
   any-im =
-      anyBit (start n .args .left .im) (diagonal n) (q / 2) (start n .args .partial + near-re n * near-re n) low (start n .args .entries .now) span
+      anyBit (left-im (start n)) (diagonal n) (q / 2) (start n .args .partial + near-re n * near-re n) low (start n .args .entries .now) span
       (start n .args .own % 2 ^ (q / 2))
 
   abbrev widest : ℕ
@@ -180,8 +176,10 @@ module _ (n : tie.After-nearest2) where
       ≡ someChildMayPass (s .task .streams) q (s .row) (s .left .re) (s .left .im) (s .partial) (s .base) (s .numbers .now) (s .entries .now) (s .own)
   whole =
       let s = start n .args in
-      opens-by (s .task .streams) q (s .row) (s .left .re) (s .left .im) (s .partial) (s .base) (s .numbers .now) (s .entries .now) (s .own)
+      opens-by (s .task .streams) q (s .row) (left-re (start n)) (left-im (start n)) (s .partial) (s .base) (s .numbers .now) (s .entries .now) (s .own)
       (diagonal n) (near-re n) (near-im n) _ _ (stands n) (re-is n) (im-is n) (omega (arith, count n real)) (omega (arith, count n imaginary))
+      ∙ ap₂ (λ (re im : ℤ). someChildMayPass (s .task .streams) q (s .row) re im (s .partial) (s .base) (s .numbers .now) (s .entries .now) (s .own))
+      (toZ-ofZ (re-fits (start n))) (toZ-ofZ (im-fits (start n)))
 
 returns : tie.Need-returns
 returns c = let n = c .before in open-base _ (low n) (widest n) (any-re n) (wider n) (any-im n) (c .if1 .taken) ∙ whole n
@@ -192,20 +190,17 @@ returns-2 c =
     let t = k .before .before in
     let l = t .before .before in
     let n = l .before in
-    let d = diagonal-fits (entry n) in
-    let f = re-fits (start n) in
-    open-first _ (low n) (widest n) (any-re n) (wider n) (any-im n) (l .if1 .left) (t .if2 .taken)
-    (sym (simp toZ-ofZ at (k .any-bit-of .ensures)) ∙ c .if3 .taken) ∙ whole n
+    open-first _ (low n) (widest n) (any-re n) (wider n) (any-im n) (l .if1 .left) (t .if2 .taken) (sym (k .any-bit-of .ensures) ∙ c .if3 .taken)
+    ∙ whole n
 
--- Behind the real axis it opens nothing: the limits of its bits were held against the distances, or the widest entry is not above `low`
+-- Behind the real axis it opens nothing: the limits of its bits were held against the distances, or the widest entry is not above `low`. The
+-- base and the other axis play no part
 first-shut : (c : tie.Joined2) → let n = c .before .before .before in (ltb (low n) (widest n) && any-re n) ≡ false
 first-shut c =
     let n = c .before .before .before in
-    let s = start n in
-    let d = diagonal-fits (entry n) in
-    let f = re-fits s in
-    ⊎-elim (λ t. first-asked (s .args .base) _ _ _ (wider n) (any-im n) (t .0 .taken) (sym (simp toZ-ofZ at (t .2 .ensures)) ∙ t .3 .left))
-    (λ e. first-unasked (s .args .base) _ _ _ (wider n) (any-im n) (e .left)) (c .if2 .came)
+    ⊎-elim {C = (ltb (low n) (widest n) && any-re n) ≡ false}
+    (λ t. first-asked 0 (low n) (widest n) (any-re n) 0 false (t .0 .taken) (sym (t .2 .ensures) ∙ t .3 .left))
+    (λ e. first-unasked 0 (low n) (widest n) (any-re n) 0 false (e .left)) (c .if2 .came)
 
 returns-3 : tie.Need-returns-3
 returns-3 c =
@@ -220,18 +215,16 @@ returns-4 c =
     let l = j .before .before in
     let n = l .before in
     let s = start n in
-    let d = diagonal-fits (entry n) in
-    let f = im-fits s in
-    simp (toZ-ofZ, masked (q n) (s .args .own) (s .pre .vector .bits)) at (c .any-bit-of2 .ensures)
-    ∙ second-asked _ (low n) (widest n) (any-re n) (wider n) (any-im n) (l .if1 .left) (first-shut j) (omega (arith, c .before .before .if4 .left)) ∙ whole n
+    let e : c .any-bit-of2 .result ≡ any-im n = rw (masked (q n) (s .args .own) (s .pre .vector .bits)) at (c .any-bit-of2 .ensures) in
+    e ∙ second-asked _ (low n) (widest n) (any-re n) (wider n) (any-im n) (l .if1 .left) (first-shut j) (c .before .before .if4 .left) ∙ whole n
 
 pub some-child-may-pass-spec : {M : Type 1} → statement M
 some-child-may-pass-spec =
     tie.close
     (tie.spec
-    (λ c. search needs)
-    (λ c. search needs)
-    (λ c. search needs)
+    (λ c. omega arith)
+    (λ c. omega arith)
+    (λ c. omega arith)
     (λ c. let s = c .before .before in omega (arith, place s .0, place s .1))
     (λ c κs. let s = c .before .before in omega (arith, place s .0, s .pre .vector .room))
     cast-diagonal
@@ -243,13 +236,13 @@ some-child-may-pass-spec =
     (λ c. omega (arith, small c))
     (λ c. omega (arith, small c))
     returns
-    (λ c. search needs)
+    (λ c. omega arith)
     (λ c. omega (arith, count (c .before) imaginary))
-    (λ c. search needs)
+    (λ c. omega arith)
     (λ c. omega (arith, count (c .before) real))
     (λ c. omega (arith, count (c .before) real))
     (λ c. omega (arith, count (c .before .before) real, start (c .before .before) .pre .stream))
-    (λ c. search needs)
+    (λ c. omega arith)
     real-asked
     returns-2
     (λ c. omega (arith, count (c .before .before .before) imaginary))
