@@ -6,7 +6,7 @@ set -eu
 cd "$(dirname "$0")/.."
 made="example stopped priors signed-priors full full-stopped wide weaker"
 refused="refused refused-wide refused-weak"
-written="bench tie points"
+written="bench tie points distance far"
 broken="empty other-opening cut trailing"
 samples=$(for name in $made $refused $written $broken; do echo samples/$name.rec; done)
 short=$(for name in $made $written; do echo samples/$name.rec; done | grep -v full)
@@ -280,6 +280,10 @@ for number in $refusals; do
 done
 grep -v "refused by 14" hosts/expected/refusals >build/refusals/expected
 same build/refusals/expected build/refusals/complaints "the numbers of refused records"
+
+# The listing that README.md shows: the lines behind the command that prints it, up to an empty one, but for what is left out there.
+awk '/^    \$/ { inside = $0 ~ /make run$/; next } /^$/ { inside = 0 } inside && $1 != "..." { sub(/^    /, ""); print }' README.md >build/readme.txt
+same samples/example.txt build/readme.txt "README.md's listing"
 
 # The program that README.md shows.
 awk '/^```c$/ { inside = 1; next } /^```$/ { inside = 0 } inside' README.md >build/readme.c

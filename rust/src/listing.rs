@@ -1,6 +1,6 @@
-//! What is printed of a record: document 01's listing, and the C host's lines. Answers are the plain detector's.
+//! What is printed of a record: document 01's listing, with 02's distance, and the C host's lines. Answers are the plain detector's.
 
-use crate::detectors::plain::answers;
+use crate::detectors::plain::{answers, distance};
 use crate::format::block::{is_against, Block, Vector};
 use crate::format::record::{Refusal, MOST_BYTES};
 use crate::format::reply::Answer;
@@ -14,12 +14,18 @@ pub fn listing(record: &[u8]) -> String {
     let Block { streams, bits, clip, share, vectors, .. } = &block;
     let answers = answers(&block);
     let mut lines = vec![format!("streams {streams} bits {bits} vectors {} clip {clip} share {share}", vectors.len())];
-    for (index, (vector, answer)) in vectors.iter().zip(&answers).enumerate() {
-        let (mark, against) = (mark(answer), against_priors(vector, answer.label));
-        lines.push(format!("{} {mark} {} {} {against} {}", index + 1, answer.nodes, answer.label, values(answer)));
+    for ((vector, answer), number) in vectors.iter().zip(&answers).zip(1..) {
+        lines.push(vector_line(&block, vector, answer, number));
     }
     lines.push(format!("total {}", answers.iter().map(|answer| answer.nodes).sum::<i64>()));
     lines.join("\n") + "\n"
+}
+
+/// A vector's line: the squared distance of the label that it shows comes last.
+fn vector_line(block: &Block, vector: &Vector, answer: &Answer, number: usize) -> String {
+    let (mark, nodes, label, values) = (mark(answer), answer.nodes, answer.label, values(answer));
+    let (against, distance) = (against_priors(vector, label), distance(block, vector, label));
+    format!("{number} {mark} {nodes} {label} {against} {values} {distance}")
 }
 
 /// What hosts/detect.c prints of a record file. Where that has more bytes than any record it complains, and prints nothing.
@@ -99,7 +105,7 @@ pub fn reason(refusal: Refusal) -> &'static str {
 #[cfg(test)]
 mod tests {
     use super::*;
-    use crate::inputs::readings::{LISTING, LISTING_RECORD, WEAK_RECORD};
+    use crate::inputs::readings::{lines, starred, LISTING, LISTING_RECORD, STARRED_DISTANCES, WEAK_RECORD};
 
     #[test]
     fn the_listing_of_document_01() {
@@ -110,11 +116,27 @@ mod tests {
     /// W is not printed, only what it makes of the values.
     #[test]
     fn the_listing_of_a_record_with_w() {
-        assert_eq!(listing(&WEAK_RECORD), "streams 2 bits 1 vectors 1 clip 10 share 4\n1 stopped 4 2 0 -8 7\ntotal 4\n");
+        assert_eq!(listing(&WEAK_RECORD), "streams 2 bits 1 vectors 1 clip 10 share 4\n1 stopped 4 2 0 -8 7 1\ntotal 4\n");
         assert_eq!(
             host_lines("a.rec", &WEAK_RECORD).lines().nth(1),
             Some("  vector 1: stopped after 4 nodes, label 2, soft values -8 7")
         );
+    }
+
+    #[test]
+    fn the_lines_of_vectors() {
+        for (contents, line) in lines() {
+            assert_eq!(listing(&contents.record()).lines().nth(1), Some(line));
+        }
+    }
+
+    #[test]
+    fn the_distances_of_the_starred_readings() {
+        for (reading, distance) in starred().iter().zip(STARRED_DISTANCES) {
+            let listing = listing(&reading.contents.record());
+            let line = listing.lines().nth(1).expect("a vector's line");
+            assert_eq!(line.rsplit(' ').next(), Some(distance.to_string().as_str()), "{line}");
+        }
     }
 
     /// Priors -1, 0, 2, 3 for the label 0110: the first and the third bit go against them.

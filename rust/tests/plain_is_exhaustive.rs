@@ -1,7 +1,9 @@
-//! The plain detector against all labels: demand 2 for complete vectors, whatever W is, and demand 3's counts.
+//! The plain detector against all labels: demand 2 for complete vectors, whatever W is, demand 3's counts, and the two parts of every
+//! walked label's metric, its distance and its prior cost.
 
-use reference::detectors::{exhaustive, plain};
-use reference::format::block::Block;
+use reference::detectors::exhaustive;
+use reference::detectors::plain::{self, Found, Leaf};
+use reference::format::block::{Block, Vector};
 use reference::format::encoding::Opening;
 use reference::inputs::chance::Chance;
 use reference::inputs::channel::{any_block, opened, Plan, Sizes};
@@ -11,11 +13,19 @@ use reference::inputs::trials::{self, SMALL_TREES};
 const TWELVE_BITS: [(usize, usize); 2] = [(3, 4), (2, 6)];
 const SIXTEEN_BITS: [(usize, usize); 2] = [(2, 8), (4, 4)];
 
+/// Checks that a walked label's metric is the sum of its parts, and that the distance is the same in both ways.
+fn check_parts(block: &Block, vector: &Vector, leaf: &Leaf) {
+    let distance = exhaustive::distance(block, vector, leaf.label);
+    assert_eq!(leaf.metric, distance + exhaustive::prior_cost(block, vector, leaf.label), "{block:?}, {leaf:?}");
+    assert_eq!(plain::distance(block, vector, leaf.label), distance, "{block:?}, {leaf:?}");
+}
+
 /// Compares the complete vectors, and gives how many there are; checks every count and mark.
 fn complete(block: &Block) -> usize {
     let mut allowance = block.vectors.len() as i64 * (block.share - block.streams as i64) + block.streams as i64;
     let mut complete = 0;
-    for (vector, answer) in block.vectors.iter().zip(plain::answers(block)) {
+    for (vector, Found { answer, leaves }) in block.vectors.iter().zip(plain::search(block)) {
+        leaves.iter().for_each(|leaf| check_parts(block, vector, leaf));
         assert!(block.streams as i64 <= answer.nodes && answer.nodes <= allowance);
         if answer.stopped {
             assert_eq!(answer.nodes, allowance);

@@ -351,7 +351,7 @@ impl Walk<'_> {
         let stream = self.block.streams - 1 - symbols.len();
         let child = |symbol: usize| {
             let chosen = [&[symbol], symbols].concat();
-            let distance = plain::distance(self.vector, stream, chosen.iter().map(|&symbol| self.point(symbol)));
+            let distance = plain::row_distance(self.vector, stream, chosen.iter().map(|&symbol| self.point(symbol)));
             (partial + distance + plain::prior_cost(self.block, self.vector, stream, symbol), chosen)
         };
         let mut all: Vec<_> = (0..1 << self.block.bits).map(child).collect();

@@ -11,9 +11,11 @@ use lib.ListN.{length, getD, take, drop, length-append, length-drop, List·getD-
 use lib.Seq.{drop-cons, take-at}
 use Rattle.wire.specs.Writing.{Wrote}
 use Rattle.model.specs.Metric.{Vector, labelBits}
-use Rattle.model.specs.Block.{vectorOf, Answer, answer, answersFrom, Every, VectorInRange, mostWidth, mostBits}
+use Rattle.model.specs.Constellation.{bitsOf}
+use Rattle.model.specs.Block.{vectorOf, Answer, answer, winningDistance, answersFrom, Every, VectorInRange, mostWidth, mostBits}
 use Rattle.model.proofs.Lists.{in-upFrom}
 use Rattle.model.proofs.Demand.{count-is}
+use Rattle.model.proofs.Parts.{distance-small}
 use Rattle.model.proofs.Bounds.{of-every, width-small, total-small}
 use Rattle.wire.specs.Folding.{folded}
 use Rattle.block.specs.Reading.{countAt}
@@ -24,7 +26,7 @@ use Rattle.search_spec.specs.Program.{answerOf}
 use Rattle.search.specs.Values.{Answered}
 use Rattle.detector.specs.Reply.{markOf, answerNumbers, answersNumbers, written, replyRoom, mostReply}
 use Rattle.search.specs.Holds.{Holds}
-use Rattle.detector.specs.Steps.{Heads, SoftAsked, FoundAsked, SearchOneAsked, allowanceAt, answerAt}
+use Rattle.detector.specs.Steps.{Heads, SoftAsked, FoundAsked, AllowanceAsked, SearchOneAsked, allowanceAt, answerAt}
 use Rattle.detector.specs.declared.Header.{Header}
 use Rattle.detector.proofs.Replies.{Short, soft-count, bits-are, count-short, label-short, soft-short, answer-room}
 use Rattle.detector.proofs.Replies.{written-append, written-first}
@@ -104,7 +106,7 @@ module _ {h : Header} {list : List ℤ} (held : Holds (h .layout) list) (headed 
       rw e (omega (arith, mul-le-mul-left (h .vectors) less))
 
 -- Vector k of the block
-abbrev vectorIn : Layout → List ℤ → ℕ → Vector
+abbrev pub vectorIn : Layout → List ℤ → ℕ → Vector
 vectorIn o list k = vectorOf (blockOf o list) (vectorRows o list k)
 
 module _ {h : Header} {list : List ℤ} {k : ℕ} {points : List ℤ} {keys bits : ℕ} (s : SearchOneAsked h list k points keys bits) where
@@ -126,6 +128,16 @@ module _ {h : Header} {list : List ℤ} {k : ℕ} {points : List ℤ} {keys bits
     allowance-is : h .vectors * h .share - spent - (h .vectors - (k + 1)) * h .streams ≡ allowanceAt (h .layout) list spent k
     allowance-is = rw (total-is (s .headed), s .headed .vectors-is, streams-are (s .headed))
 
+    -- What its allowance asks
+    pub allowance-asked : spent + (h .vectors - k) * h .streams ≤ h .vectors * h .share → AllowanceAsked h spent k
+    allowance-asked left = record {
+      inside = s .inside;
+      streams = few-streams (s .held) (s .headed);
+      vectors = few-vectors (s .held) (s .headed);
+      total = total-fits (s .held) (s .headed);
+      left = left;
+    }
+
     -- Its count leaves M nodes for each vector behind it
     pub spent-more : spent + (h .vectors - k) * h .streams ≤ h .vectors * h .share
         → spent + answerAt (h .layout) list spent k .count + (h .vectors - (k + 1)) * h .streams ≤ h .vectors * h .share
@@ -143,9 +155,9 @@ module _ {h : Header} {list : List ℤ} {k : ℕ} {points : List ℤ} {keys bits
 -- What a search of vector k leaves
 module _ {h : Header} {list : List ℤ} {k : ℕ} {points : List ℤ} {keys : ℕ} {before : List ℤ}
     (s : SearchOneAsked h list k points keys (length before)) (spent : ℕ) {allowed : ℕ}
-    (granted : allowed ≡ h .vectors * h .share - spent - (h .vectors - (k + 1)) * h .streams) {stopped : Bool} {count label : ℕ}
-    {after : List ℤ} (result : Answered (vectorIn (h .layout) list k) (blockOf (h .layout) list .weak) allowed stopped count label before after) where
-  found : Answered (vectorIn (h .layout) list k) (blockOf (h .layout) list .weak) (allowanceAt (h .layout) list spent k) stopped count label before after
+    (granted : allowed ≡ h .vectors * h .share - spent - (h .vectors - (k + 1)) * h .streams) {stopped : Bool} {count label distance : ℕ}
+    {after : List ℤ} (result : Answered (vectorIn (h .layout) list k) (blockOf (h .layout) list .weak) allowed stopped count label distance before after) where
+  found : Answered (vectorIn (h .layout) list k) (blockOf (h .layout) list .weak) (allowanceAt (h .layout) list spent k) stopped count label distance before after
   found = rw (granted ∙ allowance-is s spent) at result
 
   abbrev soft : List ℤ
@@ -194,7 +206,7 @@ module _ {h : Header} {list : List ℤ} {k : ℕ} {points : List ℤ} {keys : �
   }
 
   -- As a whole it is the answer
-  answer-is : answerOf stopped count label (take (h .streams * h .width) after) ≡ answerAt (h .layout) list spent k
+  pub answer-is : answerOf stopped count label (take (h .streams * h .width) after) ≡ answerAt (h .layout) list spent k
   unfolding answerAt
   answer-is =
       let bits = h .streams * h .width in
@@ -204,6 +216,22 @@ module _ {h : Header} {list : List ℤ} {k : ℕ} {points : List ℤ} {keys : �
         count = found .count-is j;
         result = record { label = found .label-is j; soft = front j };
       }
+
+  -- with its label's squared distance
+  pub found-distance : distance ≡ winningDistance (vectorIn (h .layout) list k) (answerAt (h .layout) list spent k)
+  unfolding answerAt
+  found-distance = found .distance-is
+
+  -- which is small
+  pub distance-few : distance < 2 ^ 39
+  distance-few =
+      let v = vector-held s in
+      omega (
+        arith,
+        found-distance,
+        distance-small (blockOf (h .layout) list) (s .held .ranged) (vectorRows (h .layout) list k) (v .ranged) (omega (arith, v .streams))
+            (bitsOf (labelBits (vectorIn (h .layout) list k)) (answerAt (h .layout) list spent k .result .label)),
+      )
 
   pub found-count : count ≡ answerAt (h .layout) list spent k .count
   found-count = ap (λ (x : Answer). x .count) answer-is

@@ -1,5 +1,5 @@
 -- The reply: its numbers each have at most four groups, and it never needs more than the buffer that is asked for.
-use Prim.Native.Nat.{ℕ, zero, suc, _+_, _*_, _^_, _≤_, _<_, zero-le}
+use Prim.Native.Nat.{ℕ, _+_, _*_, _^_, _≤_, _<_, zero-le}
 use mathlib.Core.Path.{_≡_, refl, sym, _∙_, ap, subst}
 use mathlib.Core.Bool.{Bool, true, false}
 use mathlib.Core.List.{List, [], _∷_, _++_, map, append-assoc, List·Memᴰ·head}
@@ -7,7 +7,7 @@ use native.Mathlib.Nat.{mul-le-mul, mul-assoc, suc-mul}
 use native.Mathlib.Omega.{arith}
 use borrow.Author.Tests.{eqb-true}
 use lib.IntN.{ℤ, pos, negsuc, _-ℤ_}
-use lib.ListN.{length, getD, take, length-append, length-map}
+use lib.ListN.{length, length-append, length-map}
 use lib.Pow.{pow-pos, pow-mono}
 use Rattle.integers.proofs.Magnitudes.{natAbs-neg}
 use Rattle.integers.proofs.Clipping.{clipped-within}
@@ -24,12 +24,9 @@ use Rattle.model.proofs.Tree.{walk-at-most}
 use Rattle.model.proofs.Demand.{count-is}
 use Rattle.model.proofs.Weak.{empty-most}
 use Rattle.model.proofs.Bounds.{width-small, width-positive, tree-small}
-use Rattle.wire.specs.Reading.{numberAt}
 use Rattle.wire.specs.Writing.{bytesOf}
 use Rattle.wire.specs.Folding.{folded}
 use Rattle.wire.proofs.Writing.{bytesOf-one, bytesOf-most}
-use Rattle.wire.proofs.RoundTrip.{read-written}
-use Rattle.wire.specs.declared.Number.the-variants.{Value}
 use Rattle.detector.specs.Reply.{replyOpening, markOf, answerNumbers, answersNumbers, replyNumbers, written, replyOf, replyRoom}
 
 -- Numbers written one list after the other
@@ -53,25 +50,6 @@ written-most (n ∷ ns) = omega (arith, length-append (bytesOf n) (written ns), 
 -- A number of at most four groups
 abbrev pub Short : ℕ → Type 0
 Short n = n < 2 ^ 28
-
--- Such numbers are read back, each where those before it end
-numbers-read : (before ns : List ℕ) → Every Short ns → (i : ℕ) → i < length ns
-    → numberAt (before ++ written ns) (length before + length (written (take i ns)))
-    ≡ Value (getD ns i 0) (length before + length (written (take (suc i) ns)))
-unfolding written
-numbers-read before [] h i k = absurd (omega arith)
-numbers-read before (n ∷ ns) h zero k =
-    let here : length before + 0 ≡ length before = omega arith in
-    let next : length before + length (bytesOf n ++ []) ≡ length before + length (bytesOf n) =
-    omega (arith, length-append (bytesOf n) []) in
-    rw (here, next) (read-written before (written ns) n (h .0))
-numbers-read before (n ∷ ns) h (suc i) k =
-    let lens = length-append before (bytesOf n) in
-    let place : (l : List ℕ) → length before + length (bytesOf n ++ l) ≡ length (before ++ bytesOf n) + length l =
-    λ l. omega (arith, length-append (bytesOf n) l) in
-    let here = place (written (take i ns)) in
-    let next = place (written (take (suc i) ns)) in
-    rw (here, next, ← append-assoc before (bytesOf n) (written ns)) (numbers-read (before ++ bytesOf n) ns (h .1) i (omega arith))
 
 -- A value within a clip has at most four groups, folded
 folded-short : (z : ℤ) → Within mostClip z → Short (folded z)
@@ -212,13 +190,6 @@ module _ (b : Block) (ranged : InRange b) where
   reply-short =
       let narrow = width-small (b .width) (ranged .width) in
       (omega (arith, ranged .streams), (omega arith, (omega (arith, ranged .vectors), answers-short (b .vectors) (ranged .each) 0)))
-
-  -- so that reading gives it back: the i-th, from 0, stands behind the opening and the i numbers before it
-  pub reply-read : (i : ℕ) → i < length (replyNumbers b)
-      → numberAt (replyOf b) (4 + length (written (take i (replyNumbers b))))
-      ≡ Value (getD (replyNumbers b) i 0) (4 + length (written (take (suc i) (replyNumbers b))))
-  unfolding replyOf
-  reply-read = numbers-read replyOpening (replyNumbers b) reply-short
 
   -- A reply is no longer than the buffer that is asked for
   pub reply-room : length (replyOf b) ≤ replyRoom b

@@ -24,14 +24,14 @@ ghost use Rattle.detector.specs.Steps.{Heads, answerAt};
 ghost use Rattle.detector.specs.Steps.{SoftAsked, FoundAsked, AllowanceAsked, SearchOneAsked, StepAsked, ReplyAsked};
 
 // A record's M, Q, N, C, W and D, and its layout.
-struct Header {
-    layout: Layout,
-    streams: usize,
-    width: usize,
-    vectors: usize,
-    clip: u32,
-    weak: u32,
-    share: u32,
+pub struct Header {
+    pub layout: Layout,
+    pub streams: usize,
+    pub width: usize,
+    pub vectors: usize,
+    pub clip: u32,
+    pub weak: u32,
+    pub share: u32,
 }
 
 // How far the vectors are answered: the place after the last answer, and the nodes that were walked.
@@ -40,13 +40,10 @@ struct Step {
     spent: u32,
 }
 
-// The most room that a reply asks for.
-pub const MOST_REPLY: usize = 6727;
-
 const REPLY_OPENING: [u8; 4] = [0x43, 0x42, 0x53, 0x31];
 
 // The header of the lent list, which has a layout.
-fn header_of(layout: Layout, numbers: &[i32]) -> Header
+pub fn header_of(layout: Layout, numbers: &[i32]) -> Header
     requires { ⌜ length (now numbers) ≡ mostNumbers ⌝ }
     ensures { λ r. ⌜ (r .layout ≡ layout) × Heads r (now (numbers .entry)) ⌝ }
 {
@@ -107,17 +104,18 @@ fn write_found(reply: &mut [u8], at: usize, stopped: bool, count: u32, label: u3
     wire::write_number(reply, third, label)
 }
 
-// The nodes that vector k, from 0, may walk: N x D, less those spent, less M for each vector behind it.
-fn allowance(h: Header, spent: u32, k: usize) -> u32
+// The nodes that vector k, from 0, may walk, M or more: N x D, less those spent, less M for each vector behind it.
+pub fn allowance(h: Header, spent: u32, k: usize) -> u32
     requires { ⌜ AllowanceAsked h spent k ⌝ }
-    ensures { λ r. ⌜ r ≡ h .vectors * h .share - spent - (h .vectors - (k + 1)) * h .streams ⌝ }
+    ensures { λ r. ⌜ (r ≡ h .vectors * h .share - spent - (h .vectors - (k + 1)) * h .streams) × (h .streams ≤ r) ⌝ }
 {
     let reserve = (h.vectors - 1 - k) * h.streams;
     h.vectors as u32 * h.share - spent - reserve as u32
 }
 
-// Vector k, from 0, is searched under an allowance.
-fn search_one(
+// Vector k, from 0, is searched under an allowance: what the reply says of it, its soft values at the front of `soft`, and its label's squared
+// distance. The exported call makes bytes of this, the listing text.
+pub fn search_one(
     numbers: &[i32],
     h: Header,
     k: usize,
@@ -126,9 +124,10 @@ fn search_one(
     keys: &mut [u64],
     soft: &mut [i32; LABEL_BITS],
 ) -> Found
-    requires { ⌜ SearchOneAsked h (now numbers) k (now points) (length (now keys)) (length (now soft)) ⌝ }
+    requires { ⌜ SearchOneAsked h (now numbers) k (now points) (length (now keys)) (length (now soft)) × (h .streams ≤ allowed) ⌝ }
     ensures { λ r. ⌜ Answered (vectorOf (blockOf (h .layout) (now (numbers .entry))) (vectorRows (h .layout) (now (numbers .entry)) k))
-        (blockOf (h .layout) (now (numbers .entry)) .weak) allowed (r .stopped) (r .count) (r .label) (now (soft .entry)) (now (soft .exit)) ⌝ }
+        (blockOf (h .layout) (now (numbers .entry)) .weak) allowed (r .stopped) (r .count) (r .label) (r .distance)
+        (now (soft .entry)) (now (soft .exit)) ⌝ }
 {
     let layout = h.layout;
     let size = block::vector_size(h.streams, h.width);

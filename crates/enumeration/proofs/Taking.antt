@@ -1,10 +1,10 @@
 -- The next child is taken: its key is overwritten, and its row's smallest key and column with those of the smallest that is left.
-use Prim.Native.Nat.{ℕ, _+_, _*_, _/_, _^_, _≤_, _<_}
+use Prim.Native.Nat.{ℕ, _+_, _-_, _*_, _/_, _%_, _^_, _≤_, _<_}
 use mathlib.Core.Path.{_≡_, refl, sym, ap, ap₂, _∙_}
 use mathlib.Core.List.{List}
 use mathlib.Core.Logic.{_≢_}
 use native.Mathlib.Decide.{ℕ-discrete}
-use native.Mathlib.Nat.{mul-add-div-right, div-eq-of-lt, ne-of-lt, ne-of-gt}
+use native.Mathlib.Nat.{mul-add-div-right, div-eq-of-lt, mul-add-mod-self-right, mod-eq-of-lt, ne-of-lt, ne-of-gt}
 use native.Mathlib.Omega.{arith}
 use lib.ListN.{length, getD, set, drop, length-set}
 use lib.Seq.{getD-set-same, getD-set-other}
@@ -12,7 +12,7 @@ use lib.Pow.{pow-pos}
 use Rattle.metric.proofs.Grid.{row-room}
 use Rattle.search_spec.specs.Arrays.{leastFirst}
 use Rattle.search_spec.specs.Program.{above}
-use Rattle.search_spec.proofs.Arrays.{Same}
+use Rattle.search_spec.proofs.Arrays.{Same, least-below}
 use Rattle.enumeration.specs.Rows.{rowCount, columnCount, rowColumn, rowLeast, keysAfter, RowLeast, LeastRow, Took}
 use Rattle.enumeration.proofs.Rows.{row, column, rows-first, row-column, row-key}
 
@@ -164,3 +164,16 @@ took-same {q} {old} {new} {symbol} t = record {
   wide-b = omega (arith, t .rows .wide);
   keys = λ i l. sym (t .each i l);
 }
+
+-- The two labels of the next child: the row that has the first of the smallest keys, and what is left
+pub least-labels : {q row : ℕ} {keys : List ℕ} → RowLeast q keys → row ≡ leastFirst (drop (2 ^ q) keys) (rowCount q)
+    → let s = leastFirst keys (2 ^ q) in
+    (row * columnCount q ≤ s) × (s / columnCount q ≡ row) × (s % columnCount q ≡ s - row * columnCount q)
+least-labels {q} {row} {keys} h e =
+    let b = rowColumn q keys row in
+    let below : b < columnCount q = least-below _ (columnCount q) (pow-pos (q / 2)) in
+    rw (← rows-first q keys row b h e refl) (
+      omega arith,
+      row-of q row b below,
+      mul-add-mod-self-right row (columnCount q) b ∙ mod-eq-of-lt below ∙ omega arith,
+    )

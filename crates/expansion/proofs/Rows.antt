@@ -30,7 +30,8 @@ rows-ranged q (r ∷ rows) h =
         subst (λ (x : ℕ). RowInRange q x (getD rows i noRow)) e (h (suc i) (omega arith))
 
 module _ (m q : ℕ) (numbers : List ℤ) (a : VectorAsked m q numbers) where
-  row-is : (i : ℕ) (d : Row) → i < m → getD (rowsOf m q numbers) i d ≡ rowAt m q numbers i
+  -- A row of the vector
+  pub row-is : (i : ℕ) (d : Row) → i < m → getD (rowsOf m q numbers) i d ≡ rowAt m q numbers i
   row-is i d h = row-at m q numbers (a .room) i d h
 
   each-ranged : (i : ℕ) → i < length (rowsOf m q numbers)

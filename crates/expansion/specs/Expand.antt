@@ -13,6 +13,7 @@ use Rattle.metric.specs.Parts.{span, remainderBound}
 use Rattle.metric.specs.Tables.{axisPlace, tablePart, partsIn, Tabled}
 use Rattle.metric.specs.Tables.Axis.{real, imaginary}
 use Rattle.search_spec.specs.Program.{above, largestPartial, chosen}
+use Rattle.search_spec.specs.Parts.{NodeParts}
 use Rattle.bounding.specs.Cut.{Beyond}
 use Rattle.bounding.specs.Axes.{pricedBy}
 use Rattle.bounding.specs.Answers.{someChildMayPass, someChildMayPassByParts}
@@ -22,12 +23,13 @@ use Rattle.hypotheses.specs.Limits.{vectorAt, SearchAsked, LimitsAsked}
 use Rattle.tree.specs.declared.Task.{Task}
 use Rattle.tree.specs.declared.Node.{Node}
 
--- A node of a vector that a search may be asked for
+-- A node of a vector that a search may be asked for, with both parts of its partial metric
 pub record NodeIn (m q clip : ℕ) (numbers : List ℤ) (n : Node) : Type 0 where
   pub asked : SearchAsked m q clip numbers
   pub inside : n .level ≤ m
   pub placed : n .bits < 2 ^ chosen (vectorAt m q clip numbers) (n .level)
   pub bounded : n .partial ≤ largestPartial (vectorAt m q clip numbers) (n .level)
+  pub parts : NodeParts (vectorAt m q clip numbers) n
 
 -- The partial metric of a node's child with symbol s
 abbrev pub kidOf : ℕ → ℕ → List ℤ → Node → ℕ → ℕ

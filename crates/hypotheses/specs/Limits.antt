@@ -15,6 +15,8 @@ use Rattle.search_spec.specs.Program.{above, Taken, takenIn, zerosOf, onesOf, l
 use Rattle.bounding.specs.Cut.{Widest}
 use Rattle.limits.specs.Reach.{limitsSize, entriesOf, Reaches, reachesIn}
 use Rattle.tree.specs.declared.Task.{Task}
+use Rattle.tree.specs.declared.Node.{Node}
+use Rattle.tree.specs.declared.Kept.{Kept}
 
 -- The vector that m rows with q bits a symbol are, by their numbers
 abbrev pub vectorAt : ℕ → ℕ → ℕ → List ℤ → Vector
@@ -105,3 +107,8 @@ limitsAfter v m node d t limits =
     let n = m * v .width in
     let lowered = loweredAt n true (bitXor node (t .label)) d limits in
     reachesIn (v .width) (filled (cond (sooner d node (t .best) (t .label)) (limitAt v (noted v node d t)) lowered) n limits) m
+
+-- Both parts of the best label's metric are kept with it (document 02, Point 5): those of a leaf that comes before it, else as they were
+pub record PartsAfter (leaf : Node) (old new : Kept) : Type 0 where
+  pub distance-is : new .distance ≡ cond (sooner (leaf .partial) (leaf .bits) (old .best) (old .label)) (leaf .distance) (old .distance)
+  pub cost-is : new .cost ≡ cond (sooner (leaf .partial) (leaf .bits) (old .best) (old .label)) (leaf .cost) (old .cost)

@@ -17,7 +17,7 @@ ghost use Rattle.model.specs.Block.{mostBits, mostClip};
 ghost use Rattle.metric.specs.Rows.{VectorAsked};
 ghost use Rattle.metric.specs.Parts.{bitOf, filled};
 ghost use Rattle.search_spec.specs.Program.{above, sideOf, valueOf, takenIn, zerosOf, onesOf, limitsOf, keptOf, reachOf, sooner, noted};
-ghost use Rattle.hypotheses.specs.Limits.{vectorFor, Asked, upOf, limitAt, minimaSize, minimumPlace, NotedTo, NarrowedTo, loweredBoth, LowBeside, Limited, Renewed, limitsAfter};
+ghost use Rattle.hypotheses.specs.Limits.{vectorFor, Asked, upOf, limitAt, minimaSize, minimumPlace, NotedTo, NarrowedTo, loweredBoth, LowBeside, Limited, Renewed, limitsAfter, PartsAfter};
 ghost use Rattle.limits.specs.Reach.{reachesIn};
 ghost use Rattle.hypotheses.specs.Values.{MinimaLow};
 
@@ -193,7 +193,7 @@ pub fn take(task: Task, leaf: Node, kept: Kept, numbers: &[i32], minima: &mut [u
         ≡ limitsAfter (vectorFor task (now (numbers .entry))) (task .streams) (leaf .bits) (leaf .partial)
         (takenIn (kept .label) (kept .best) (now (minima .entry))) (limitsOf (now (minima .entry))))
         × Limited (vectorFor task (now (numbers .entry))) (takenIn (r .label) (r .best) (now (minima .exit)))
-        (limitsOf (now (minima .exit))) × (length (now (minima .exit)) ≡ minimaSize) ⌝ }
+        (limitsOf (now (minima .exit))) × (length (now (minima .exit)) ≡ minimaSize) × PartsAfter leaf kept r ⌝ }
 {
     let n = task.streams * task.width;
     if !comes_sooner(leaf.partial, leaf.bits, kept.best, kept.label) {
@@ -209,6 +209,8 @@ pub fn take(task: Task, leaf: Node, kept: Kept, numbers: &[i32], minima: &mut [u
         stopped: kept.stopped,
         label: leaf.bits,
         best: leaf.partial,
+        distance: leaf.distance,
+        cost: leaf.cost,
     }
 }
 

@@ -6,7 +6,7 @@ use libc::STDERR_FILENO;
 use libc::STDIN_FILENO;
 use libc::STDOUT_FILENO;
 ghost use mathlib.Core.Path.{_≡_};
-ghost use Rattle.listing.specs.Text.{listingOf};
+ghost use Rattle.lines.specs.Text.{listingOf};
 ghost use Rattle.list.specs.Input.{Within};
 
 // How many bytes are read at most: one more than the longest record has, so that a longer input is

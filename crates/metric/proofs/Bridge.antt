@@ -1,7 +1,7 @@
 -- The parts of both axes at a node, filled in by the table: a label's place holds its part, and the sum of the parts is the increment.
 use Prim.Native.Nat.{ℕ, suc, _+_, _-_, _*_, _/_, _%_, _^_, _≤_, _<_}
 use mathlib.Core.Path.{_≡_, sym, _∙_, ap, ap₂, subst}
-use mathlib.Core.List.{List, _++_}
+use mathlib.Core.List.{List}
 use native.Mathlib.Nat.{le-of-lt, zero-add, mod-lt, mul-le-mul}
 use native.Mathlib.Omega.{arith}
 use lib.ListN.{length, getD}
@@ -18,7 +18,7 @@ use Rattle.metric.specs.Rows.{rowStart, rowAt, childOf, VectorAsked, Mea
 use Rattle.metric.specs.Tables.{Axis, axisPlace, axisBits, axisPrior, labelProduct, labelCost, Tabled, tablePart, partsIn, AxisAsked}
 use Rattle.metric.specs.Tables.Axis.{real, imaginary}
 use Rattle.metric.proofs.Filled.{from-length, from-before, from-at, from-all}
-use Rattle.metric.proofs.Increments.{part-append, part-length, increment-by}
+use Rattle.metric.proofs.Increments.{part-length, priors-split, increment-by}
 use Rattle.metric.proofs.Rows.{diagonal-within}
 use Rattle.metric.proofs.Tables.{amplitude-few, axis-few, place-room, axis-priors}
 use Rattle.metric.proofs.Remainders.{remains}
@@ -129,7 +129,7 @@ module _ {m q : ℕ} {numbers : List ℤ} (asked : VectorAsked m q numbers) (lev
         ap (λ (x : ℕ). d + x)
         (ap₂ (λ (z : Complex) (d : ℤ). axisPart (z .re) d re w (s / 2 ^ (q / 2)) + axisPart (z .im) d im (q / 2) (s % 2 ^ (q / 2)))
         is (asked .plain level inside)
-        ∙ sym (increment-by q (rowAt m q numbers level) s (bitsOf ((m - suc level) * q) node) re im split
+        ∙ sym (increment-by q (rowAt m q numbers level) s (bitsOf ((m - suc level) * q) node) re im (priors-split numbers (axisPrior m q level real) q)
         (part-length numbers (axisPrior m q level real) w)))
       where
         w : ℕ
@@ -140,11 +140,6 @@ module _ {m q : ℕ} {numbers : List ℤ} (asked : VectorAsked m q numbers) (lev
 
         im : List ℤ
         im = part numbers (axisPrior m q level imaginary) (q / 2)
-
-        split : part numbers (axisPrior m q level real) q ≡ re ++ im
-        split =
-            let e : q ≡ w + q / 2 = omega arith in
-            ap (part numbers (axisPrior m q level real)) e ∙ part-append numbers (axisPrior m q level real) w (q / 2)
 
     -- It is at least what the squared distances alone come to
     pub child-distances : (d s : ℕ)

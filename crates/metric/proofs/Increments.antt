@@ -4,7 +4,7 @@ use mathlib.Core.Path.{_≡_, refl, sym, _∙_, ap, ap₂}
 use mathlib.Core.List.{List, [], _∷_, _++_, map, map-append}
 use native.Mathlib.Nat.{add-zero, zero-add, add-assoc, add-suc}
 use native.Mathlib.Omega.{arith}
-use lib.ListN.{length, getD, take, take-append-drop}
+use lib.ListN.{length, getD, take-append-drop}
 use lib.Seq.{take-at, drop-at}
 use lib.IntN.{ℤ, pos, negℤ, _+ℤ_, _-ℤ_, _*ℤ_, +ℤ-assoc, +ℤ-comm, +ℤ-idr, negℤ-+ℤ, zero-*ℤ}
 use Rattle.model.specs.Constellation.{Complex, Bits, bitsOf, real, _⊕_, _⊖_, _⊗_, square, point}
@@ -80,6 +80,12 @@ pub part-length : (numbers : List ℤ) (at n : ℕ) → length (part numbers at 
 unfolding part
 part-length numbers at n = length-upFrom (λ j. getD numbers (at + j) (pos 0)) 0 n
 
+-- A symbol's priors are those of its real half and those of the other
+pub priors-split : (numbers : List ℤ) (at q : ℕ) → part numbers at q ≡ part numbers at (q - q / 2) ++ part numbers (at + (q - q / 2)) (q / 2)
+priors-split numbers at q =
+    let e : q ≡ q - q / 2 + q / 2 = omega arith in
+    ap (part numbers at) e ∙ part-append numbers at (q - q / 2) (q / 2)
+
 -- The real half of a symbol's label has w bits, the other h: the increment is the sum of the two axes' parts
 module _ (q : ℕ) (r : Row) (s : ℕ) (rest : Bits) (re im : List ℤ) (split : r .priors ≡ re ++ im) (half : length re ≡ q - q / 2) where
   whole : q ≡ q - q / 2 + q / 2
@@ -91,10 +97,10 @@ module _ (q : ℕ) (r : Row) (s : ℕ) (rest : Bits) (re im : List ℤ) (split :
       ∙ sym (take-append-drop (q - q / 2) (bitsOf (q - q / 2 + q / 2) s))
       ∙ ap₂ (λ (a b : Bits). a ++ b) (take-bits (q - q / 2) (q / 2) s) (drop-bits (q - q / 2) (q / 2) s ∙ sym (low-bits (q / 2) s))
 
-  costs : priorCost (r .priors) (take q (bitsOf q s ++ rest))
+  pub costs-by : priorCost (r .priors) (bitsOf q s)
       ≡ priorCost re (bitsOf (q - q / 2) (s / 2 ^ (q / 2))) + priorCost im (bitsOf (q / 2) (s % 2 ^ (q / 2)))
-  costs =
-      ap₂ priorCost split (take-at (bitsOf q s) rest q (length-bitsOf q s) ∙ bits)
+  costs-by =
+      ap₂ priorCost split bits
       ∙ cost-append re im (bitsOf (q - q / 2) (s / 2 ^ (q / 2))) (bitsOf (q / 2) (s % 2 ^ (q / 2)))
       (half ∙ sym (length-bitsOf (q - q / 2) (s / 2 ^ (q / 2))))
 
@@ -105,7 +111,7 @@ module _ (q : ℕ) (r : Row) (s : ℕ) (rest : Bits) (re im : List ℤ) (split :
   increment-by =
       omega (
         arith,
-        costs,
+        ap (priorCost (r .priors)) (take-at (bitsOf q s) rest q (length-bitsOf q s)) ∙ costs-by,
         ap square (residual-by q r (bitsOf q s) rest (length-bitsOf q s)
             ∙ ap (λ (p : Complex). complexOf
             (remainderOf q r rest .re -ℤ pos (r .diagonal) *ℤ p .re)

@@ -8,6 +8,7 @@ pub mod Products
 pub mod Grid
 pub mod Pass
 pub mod Tables
+pub mod Parted
 pub mod Opposite
 pub mod Folds
 pub mod Bridge

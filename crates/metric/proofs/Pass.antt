@@ -7,10 +7,7 @@ use native.Mathlib.Nat.{le-refl}
 use native.Mathlib.Omega.{arith}
 use lib.IntN.{ℤ}
 use lib.ListN.{length, getD, set}
-use lib.Seq.{take-at}
-use Rattle.model.specs.Constellation.{Bits, bitsOf}
-use Rattle.model.specs.Metric.{squaredDistance, priorCost, increment}
-use Rattle.model.proofs.Numbers.{length-bitsOf}
+use Rattle.model.specs.Metric.{increment}
 use Rattle.metric.specs.Parts.{childMetric, realIn, imaginaryIn, measuredTo, filled}
 use Rattle.metric.specs.Rows.{rowAt, childBits, childOf, Measured}
 use Rattle.metric.proofs.Filled.{filled-more, filled-length, filled-rest, filled-at}
@@ -51,18 +48,6 @@ module _ (q d : ℕ) (axes keys : List ℕ) where
           → getD (measuredTo q d axes k keys) s 0 ≡ d + increment q (rowAt m q numbers level) (childBits m q level node s)
       unfolding childOf
       pass-measured k s few h = pass-sums k s h (omega arith) ∙ sym (measured .child d s (omega arith))
-
-      -- which is its squared distance and its prior cost
-      pub pass-parts : (k s : ℕ) → k ≤ 2 ^ q → s < k
-          → let row = rowAt m q numbers level in
-          getD (measuredTo q d axes k keys) s 0
-          ≡ d + (squaredDistance q row (childBits m q level node s) + priorCost (row .priors) (bitsOf q s))
-      unfolding increment
-      pass-parts k s few h =
-          let row = rowAt m q numbers level in
-          pass-measured k s few h
-          ∙ ap (λ (own : Bits). d + (squaredDistance q row (childBits m q level node s) + priorCost (row .priors) own))
-          (take-at (bitsOf q s) _ q (length-bitsOf q s))
 
       -- After all children each has its partial metric, and the places behind them are as before the pass
       pub pass-all : (after : List ℕ) → after ≡ measuredTo q d axes (2 ^ q) keys

@@ -1,6 +1,6 @@
 -- The table of what depends on a vector alone: for each axis of each row, the diagonal entry times the amplitude of each axis label, then
 -- each label's prior cost.
-use Prim.Native.Nat.{ℕ, zero, suc, _+_, _-_, _*_, _/_, _≤_, _<_, _^_}
+use Prim.Native.Nat.{ℕ, zero, suc, _+_, _-_, _*_, _/_, _%_, _≤_, _<_, _^_}
 use mathlib.Core.Path.{_≡_}
 use mathlib.Core.List.{List}
 use lib.IntN.{ℤ, pos, natAbs, _-ℤ_, _*ℤ_}
@@ -83,6 +83,15 @@ tablePart tables at left g =
     let z = left -ℤ getD tables (at + g) (pos 0) in
     natAbs z * natAbs z + natAbs (getD tables (at + span + g) (pos 0))
 
+-- The prior cost of a symbol in row i, by the table's entries of its real and its imaginary label
+unfoldable pub labelsCost : List ℤ → ℕ → ℕ → ℕ → ℕ
+labelsCost tables i a b =
+    natAbs (getD tables (axisPlace i real + span + a) (pos 0)) + natAbs (getD tables (axisPlace i imaginary + span + b) (pos 0))
+
+-- The same of symbol s
+abbrev pub costIn : ℕ → List ℤ → ℕ → ℕ → ℕ
+costIn q tables i s = labelsCost tables i (s / 2 ^ (q / 2)) (s % 2 ^ (q / 2))
+
 -- An array of both axes with the parts of row i's labels filled in: the other places are as before
 unfoldable pub partsIn : ℕ → List ℤ → ℕ → ℤ → ℤ → List ℕ → List ℕ
 partsIn q tables i re im axes =
@@ -96,6 +105,14 @@ pub record AxisAsked (tables : List ℤ) (at : ℕ) (left : ℤ) (w : ℕ) : Typ
   pub remains : natAbs left < remainderBound
   pub product : (g : ℕ) → g < 2 ^ w → natAbs (getD tables (at + g) (pos 0)) < remainderBound
   pub cost : (g : ℕ) → g < 2 ^ w → getD tables (at + span + g) (pos 0) ≡ pos (natAbs (getD tables (at + span + g) (pos 0)))
+
+-- What looking up a symbol's prior cost asks: its labels' costs stand within the table, and are not negative
+pub record CostAsked (tables : List ℤ) (i a b : ℕ) : Type 0 where
+  pub inside : i < mostStreams
+  pub real-few : a < span
+  pub imaginary-few : b < span
+  pub real-is : let c = getD tables (axisPlace i real + span + a) (pos 0) in c ≡ pos (natAbs c)
+  pub imaginary-is : let c = getD tables (axisPlace i imaginary + span + b) (pos 0) in c ≡ pos (natAbs c)
 
 -- What multiplying with an axis's amplitudes asks: they stand in the points from a place on, some places apart
 pub record AmplitudesAsked (points : List ℤ) (first step w : ℕ) : Type 0 where

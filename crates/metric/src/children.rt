@@ -7,6 +7,7 @@ ghost use Prim.Native.Nat.{_+_, _*_, _-_, _/_, _<_, _≤_, _^_};
 ghost use lib.ListN.{length};
 ghost use Rattle.model.specs.Block.{mostWidth};
 ghost use Rattle.metric.specs.Parts.{span, imaginaryIn, rowMetric, measuredTo, filledFrom, AllSmall};
+ghost use Rattle.metric.specs.Children.{PartedTo};
 
 // A row of the constellation, the n children with one real label, from a place of the keys on: `base` is what they share.
 fn fill_columns(base: u64, axes: &[u64; AXES], n: usize, at: usize, keys: &mut [u64])
@@ -48,10 +49,12 @@ fn fill_rows(q: usize, partial: u64, axes: &[u64; AXES], rows: usize, keys: &mut
     }
 }
 
-// The pass over the children as far as the first k: whole rows, and the first columns of the next one.
+// The pass over the children as far as the first k: whole rows, and the first columns of the next one. Each of the k has squared distance,
+// prior cost and their sum.
 fn fill_first(q: usize, partial: u64, axes: &[u64; AXES], k: usize, keys: &mut [u64])
     requires { ⌜ (q ≤ mostWidth) × (partial < 2 ^ 62) × AllSmall (now axes) × (2 ^ q ≤ length (now keys)) × (k ≤ 2 ^ q) ⌝ }
-    ensures { λ _. ⌜ now (keys .exit) ≡ measuredTo q partial (now (axes .entry)) k (now (keys .entry)) ⌝ }
+    ensures { λ _. ⌜ (now (keys .exit) ≡ measuredTo q partial (now (axes .entry)) k (now (keys .entry)))
+        × PartedTo q partial (now (axes .entry)) k (now (keys .exit)) ⌝ }
 {
     let n: usize = 1 << (q / 2);
     let rows = k / n;
@@ -62,7 +65,8 @@ fn fill_first(q: usize, partial: u64, axes: &[u64; AXES], k: usize, keys: &mut [
 // The same for all children, with the rows and columns of 64-QAM and 16-QAM made known to the compiler.
 pub fn fill_children(q: usize, partial: u64, axes: &[u64; AXES], keys: &mut [u64])
     requires { ⌜ (q ≤ mostWidth) × (partial < 2 ^ 62) × AllSmall (now axes) × (2 ^ q ≤ length (now keys)) ⌝ }
-    ensures { λ _. ⌜ now (keys .exit) ≡ measuredTo q partial (now (axes .entry)) (2 ^ q) (now (keys .entry)) ⌝ }
+    ensures { λ _. ⌜ (now (keys .exit) ≡ measuredTo q partial (now (axes .entry)) (2 ^ q) (now (keys .entry)))
+        × PartedTo q partial (now (axes .entry)) (2 ^ q) (now (keys .exit)) ⌝ }
 {
     if q == 6 {
         return fill_first(6, partial, axes, 64, keys);

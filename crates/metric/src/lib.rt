@@ -14,6 +14,7 @@ use constellation::PLACES;
 pub use distance::nearest;
 pub use remaining::remainder;
 pub use table::prepare;
+pub use table::symbol_cost;
 ghost use mathlib.Core.Path.{_≡_};
 ghost use Prim.Native.Nat.{_/_, _%_, _<_, _≤_, _^_};
 ghost use lib.IntN.{pos, natAbs, _-ℤ_};

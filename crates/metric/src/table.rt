@@ -16,7 +16,7 @@ ghost use Rattle.model.specs.Block.{mostEntry};
 ghost use Rattle.constellation.specs.Points.{Points};
 ghost use Rattle.metric.specs.Parts.{span, part, axisCost, filledFrom};
 ghost use Rattle.metric.specs.Rows.{VectorAsked};
-ghost use Rattle.metric.specs.Tables.{tableSize, labelProduct, labelCost, entriesIn, rowsIn, AmplitudesAsked, PriorsAsked, EntriesAsked};
+ghost use Rattle.metric.specs.Tables.{tableSize, labelProduct, labelCost, entriesIn, rowsIn, labelsCost, AmplitudesAsked, PriorsAsked, EntriesAsked, CostAsked};
 
 // The cost of a bit against its prior: the magnitude where the bit goes against the sign.
 fn bit_cost(prior: i64, bit: bool) -> u64
@@ -198,4 +198,21 @@ pub fn prepare(task: Task, points: &[i8; PLACES], numbers: &[i32], tables: &mut 
         fill_entries(points, imaginary, numbers, later, diagonal, next, tables);
         row += 1;
     }
+}
+
+// A cost of the table, which is not negative.
+fn cost_at(tables: &[i32; TABLE], i: usize) -> u64
+    requires { ⌜ (i < tableSize) × (getD (now tables) i (pos 0) ≡ pos (natAbs (getD (now tables) i (pos 0)))) ⌝ }
+    ensures { λ r. ⌜ (r ≡ natAbs (getD (now (tables .entry)) i (pos 0))) × (r ≤ 2 ^ 31) ⌝ }
+{
+    tables[i] as u64
+}
+
+// The prior cost of a symbol in a row, by its real and its imaginary label.
+pub fn symbol_cost(tables: &[i32; TABLE], row: usize, real: usize, imaginary: usize) -> u64
+    requires { ⌜ CostAsked (now tables) row real imaginary ⌝ }
+    ensures { λ r. ⌜ r ≡ labelsCost (now (tables .entry)) row real imaginary ⌝ }
+{
+    let at = row * (4 * SPAN);
+    cost_at(tables, at + SPAN + real) + cost_at(tables, at + 2 * SPAN + SPAN + imaginary)
 }

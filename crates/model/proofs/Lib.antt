@@ -4,6 +4,7 @@ pub mod Clip
 pub mod Numbers
 pub mod Gray
 pub mod Bounds
+pub mod Parts
 pub mod Least
 pub mod Cut
 pub mod Tree

@@ -7,11 +7,11 @@ use mathlib.Core.List.{List, [], _∷_, map}
 use lib.IntN.{ℤ, pos, negℤ}
 use lib.ListN.{length, take}
 use Rattle.model.specs.Constellation.{Complex, number, bitsOf, symbols, amplitude, point}
-use Rattle.model.specs.Metric.{Row, dot, residual, priorCost, increment, metric, allPriors}
+use Rattle.model.specs.Metric.{Row, dot, residual, priorCost, increment, metric, distance, allPriors}
 use Rattle.model.specs.Order.{earlier}
 use Rattle.model.specs.Soft.{finite, leastOf, those, pick, upFrom, softValue}
 use Rattle.model.specs.Walk.{passes, insert, sort, children, walkBelow}
-use Rattle.model.specs.Block.{Block, vectorOf, Answer, answer, allowance, answersFrom, answers}
+use Rattle.model.specs.Block.{Block, vectorOf, Answer, answer, winningDistance, allowance, answersFrom, answers}
 use Rattle.model.specs.Search.{start, enter, searchBelow, search, searchAnswer}
 
 abbrev pub minus : ℕ → ℤ
@@ -88,6 +88,34 @@ readings =
 pub starred : map found readings ≡ map stated readings
 unfolding found stated readings
 starred = refl
+
+-- Document 02, Point 5: the winning labels' squared distances, one of each block, "separately from" their prior costs
+abbrev pub distanceFirst : Block → List (List Row) → List Answer → ℕ
+distanceFirst b [] found = 0
+distanceFirst b (rows ∷ later) [] = 0
+distanceFirst b (rows ∷ later) (a ∷ found) = winningDistance (vectorOf b rows) a
+
+unfoldable pub apart : Reading → ℕ
+unfolding number bitsOf symbols amplitude point dot residual distance
+apart r = distanceFirst (r .given) (r .given .vectors) (r .expected)
+
+-- R rows (1, 3), (0, 1), y = (-4, 1), priors 0: stopped at label 1, though label 0 has the distance 4
+abbrev pub stoppedShort : Reading
+stoppedShort =
+    block 2 1 9 2 ((row 1 (pos 3 & pos 0 ∷ []) (minus 4 & pos 0) (pos 0 ∷ []) ∷ row 1 [] (pos 1 & pos 0) (pos 0 ∷ []) ∷ []) ∷ [])
+    gives (stopped 2 1 (pos 9 ∷ minus 9 ∷ []) ∷ [])
+
+-- y = -2, prior -3: label 0 wins with 1 and a prior cost of 3
+abbrev pub priced : Reading
+priced = single (minus 2) (minus 3) 20 2 gives (complete 2 0 (pos 8 ∷ []) ∷ [])
+
+pub distances-apart : map apart (priced ∷ stoppedShort ∷ readings) ≡ 1 ∷ 36 ∷ 1 ∷ 1 ∷ 1 ∷ 1 ∷ 9 ∷ 9 ∷ 1 ∷ 1 ∷ 1 ∷ 1 ∷ []
+unfolding apart readings
+distances-apart = refl
+
+pub apart-found : map found (priced ∷ stoppedShort ∷ []) ≡ map stated (priced ∷ stoppedShort ∷ [])
+unfolding found stated
+apart-found = refl
 
 -- The listing's block: that vector twice, C = 10, D = 3
 unfoldable pub listing : Reading

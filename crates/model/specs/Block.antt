@@ -7,8 +7,8 @@ use mathlib.Core.List.{List, [], _∷_, List·Memᴰ}
 use lib.Dec.{ltb}
 use lib.ListN.{length, take}
 use lib.IntN.{ℤ, natAbs}
-use Rattle.model.specs.Constellation.{Complex, Bits}
-use Rattle.model.specs.Metric.{Row, Vector}
+use Rattle.model.specs.Constellation.{Complex, Bits, bitsOf}
+use Rattle.model.specs.Metric.{Row, Vector, labelBits, distanceOf}
 use Rattle.model.specs.Soft.{Report, report}
 use Rattle.model.specs.Walk.{walk, leaves}
 
@@ -57,6 +57,10 @@ answer v weak n = record {
   count = length (walkedNodes v n);
   result = report v (emptySide (isStopped v n) weak (v .clip)) (walkedLabels v n);
 }
+
+-- "The winning label's squared distance" (document 02): that of the label that the answer shows, complete or stopped
+abbrev pub winningDistance : Vector → Answer → ℕ
+winningDistance v a = distanceOf v (bitsOf (labelBits v) (a .result .label))
 
 -- N × D, the nodes that the block may walk
 abbrev pub total : Block → ℕ

@@ -52,9 +52,27 @@ unfoldable pub metric : ℕ → List Row → Bits → ℕ
 metric q [] bits = 0
 metric q (r ∷ rs) bits = increment q r bits + metric q rs (drop q bits)
 
+-- The two parts of that sum (document 02, "The distance without priors"): the squared distances of rows i to M,
+unfoldable pub distance : ℕ → List Row → Bits → ℕ
+distance q [] bits = 0
+distance q (r ∷ rs) bits = squaredDistance q r bits + distance q rs (drop q bits)
+
+-- and the prior costs of the bits of these streams
+unfoldable pub cost : ℕ → List Row → Bits → ℕ
+cost q [] bits = 0
+cost q (r ∷ rs) bits = priorCost (r .priors) (take q bits) + cost q rs (drop q bits)
+
 -- "A label's metric is the sum of its increments"
 abbrev pub metricOf : Vector → Bits → ℕ
 metricOf v label = metric (v .width) (v .rows) label
+
+-- A label's "squared distance separately from its prior cost" (document 02)
+abbrev pub distanceOf : Vector → Bits → ℕ
+distanceOf v label = distance (v .width) (v .rows) label
+
+-- and that prior cost
+abbrev pub costOf : Vector → Bits → ℕ
+costOf v label = cost (v .width) (v .rows) label
 
 -- M × Q, the number of bits in a label
 abbrev pub labelBits : Vector → ℕ

@@ -85,8 +85,8 @@ module _ (o : Layout) (list : List ℤ) (h : Holds o list) (m q : ℕ) (em : m �
 
     -- What it answers under an allowance is the answer for vector k
     pub part-answered : (c : ℕ) → c ≡ countAt 3 list → {w x : ℕ} → w ≡ x → {d a : ℕ} → d ≡ a
-        → {b : Bool} {n label : ℕ} {before after : List ℤ}
+        → {b : Bool} {n label distance : ℕ} {before after : List ℤ}
         → let start = headerSize o + k * vectorSize m q in
-        Answered (vectorAt m q c (take (start + vectorSize m q - start) (drop start list))) w d b n label before after
-        → Answered (vectorAt (countAt 0 list) (countAt 1 list) (countAt 3 list) (vectorNumbers o list k)) x a b n label before after
+        Answered (vectorAt m q c (take (start + vectorSize m q - start) (drop start list))) w d b n label distance before after
+        → Answered (vectorAt (countAt 0 list) (countAt 1 list) (countAt 3 list) (vectorNumbers o list k)) x a b n label distance before after
     part-answered c ec ew ed answered = rw (vector-part, em, eq, ec, ew, ed) at answered

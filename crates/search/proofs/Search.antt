@@ -3,17 +3,18 @@ use Prim.Native.Nat.{ℕ, _+_, _-_, _*_, _^_, _≤_, _<_}
 use mathlib.Core.Path.{_≡_, refl, sym, _∙_, ap, subst}
 use mathlib.Core.Bool.{Bool, true, false}
 use mathlib.Core.List.{List, _++_}
-use native.Mathlib.Nat.{le-of-lt, le-trans, lt-of-le-of-lt}
+use native.Mathlib.Nat.{le-of-lt, le-trans}
 use native.Mathlib.Omega.{arith}
 use lib.ListN.{length, getD, set, take, drop, take-append-drop}
 use lib.IntN.{ℤ}
 use Rattle.model.specs.Metric.{Vector}
 use Rattle.block.proofs.Places.{rows-count}
 use Rattle.model.specs.Block.{mostWidth}
+use Rattle.metric.specs.Tables.{Tabled}
 use Rattle.search_spec.specs.Arrays.{leastFirst}
-use Rattle.search_spec.specs.Program.{above, largestPartial, Taken, Kept, keptOf, passing, noted, chosen, keyOf, childIn, below, restOf}
+use Rattle.search_spec.specs.Program.{above, Taken, Kept, keptOf, passing, noted, chosen, keyOf, childIn, below, restOf}
 use Rattle.search_spec.proofs.Arrays.{Same, Held, held-least, held-set, held-same, same-part}
-use Rattle.search_spec.proofs.Bounds.{kept-falls, symbol-inside, key-bound, keys-held, partial-low, child-placed, child-by}
+use Rattle.search_spec.proofs.Bounds.{kept-falls, symbol-inside, key-low as kid-under, keys-held, child-by}
 use Rattle.search_spec.proofs.Turns.{rest-start, rest-same, rest-done, rest-cut, rest-halted, rest-stopped, rest-onward}
 use Rattle.search_spec.proofs.Early.{rest-beyond, below-shut}
 use Rattle.enumeration.specs.Rows.{keyCount, RowLeast, Took}
@@ -22,24 +23,26 @@ use Rattle.enumeration.proofs.Taking.{took-same}
 use Rattle.hypotheses.specs.Limits.{vectorAt, LimitsAsked, Limited}
 use Rattle.search.specs.Limits.{passesAt, opposite}
 use Rattle.search.specs.Turn.{behind, NextAsked, nextOf, NodeAsked, Renewal}
-use Rattle.expansion.specs.Expand.{NodeIn, Shut, Filled}
+use Rattle.expansion.specs.Expand.{NodeIn, kidOf, Shut, Filled}
 use Rattle.tree.specs.declared.Node.{Node}
 use Rattle.expansion.proofs.Rows.{key-by}
 use Rattle.expansion.proofs.Nodes.{keys-rise, room-for, in-range, within, chosen-few, node-placed, level-up, some, row-inside, kid-low}
 use Rattle.search.proofs.Values.{room-below}
 use Rattle.search.proofs.Limits.{passing-by, child-reach, would-cut}
+use Rattle.search.proofs.Next.{next-low, next-priced, next-within, next-bits, next-in}
 
 -- Before a child is tried, `tried` of them were: `whole`, what the search below the node comes to, is what is left to make of k. The keys
 -- have room for the levels below
-pub record Searching (m q clip : ℕ) (numbers : List ℤ) (allowance : ℕ) (n : Node) (whole : Kept) (tried : ℕ) (keys : List ℕ)
+pub record Searching (m q clip : ℕ) (numbers tables : List ℤ) (allowance : ℕ) (n : Node) (whole : Kept) (tried : ℕ) (keys : List ℕ)
     (k : Kept) (limits : List ℕ) : Type 0 where
   pub node : NodeIn m q clip numbers n
   pub inner : 0 < n .level
+  pub tabled : Tabled m q numbers tables
   pub room : n .level * keyCount q ≤ length keys
   pub rows : RowLeast q keys
   pub lowest : k .taken .best ≤ above
   pub running : k .stopped ≡ false
-  pub held : Held above (2 ^ q) (largestPartial (vectorAt m q clip numbers) (n .level - 1)) tried keys
+  pub held : Held above (2 ^ q) (keyOf (vectorAt m q clip numbers) (n .level - 1) (n .bits) (n .partial)) tried keys
   pub left : whole ≡ restOf (vectorAt m q clip numbers) allowance (n .level - 1) (n .bits) (2 ^ q - tried) keys k
   pub limited : Limited (vectorAt m q clip numbers) (k .taken) limits
   pub opposed : n .chosen ≡ opposite m q limits (k .taken .label) (n .level) (n .bits)
@@ -76,7 +79,7 @@ module _ {m q clip : ℕ} {numbers : List ℤ} {n : Node} (w : NodeIn m q clip n
           ap (λ (x : Bool). keptOf count x t) f
           ∙ sym (ap (λ (l : ℕ). below v allowance l (n .bits) (n .partial) (keptOf count false t)) (level-up w inner)
           ∙ below-shut v allowance (n .level - 1) (n .bits) (n .partial) (keptOf count false t)
-          (λ s h. le-of-lt (lt-of-le-of-lt (key-bound v (n .level) (some w inner) (within w) (in-range w) (n .partial) (w .bounded) (n .bits) s) (partial-low v (in-range w) (n .level - 1))))
+          (λ s h. le-of-lt (kid-under v (n .level) (some w inner) (within w) (in-range w) (n .partial) (w .bounded) (n .bits) s))
           fails)
         where
           fails : (s : ℕ) → s < 2 ^ q
@@ -91,15 +94,17 @@ module _ {m q clip : ℕ} {numbers : List ℤ} {n : Node} (w : NodeIn m q clip n
     pub start : (t : Taken) (limits : List ℕ) → t .best ≤ above → Limited v t limits
         → n .chosen ≡ opposite m q limits (t .label) (n .level) (n .bits) → (allowance : ℕ) (keys : List ℕ)
         → n .level * keyCount q ≤ length keys → Filled m q numbers n keys → (count : ℕ) (stopped : Bool) → stopped ≡ false
-        → Searching m q clip numbers allowance n (below v allowance (n .level) (n .bits) (n .partial) (keptOf count false t)) 0 keys
+        → {tables : List ℤ} → Tabled m q numbers tables
+        → Searching m q clip numbers tables allowance n (below v allowance (n .level) (n .bits) (n .partial) (keptOf count false t)) 0 keys
         (keptOf count stopped t) limits
-    start t limits lowest limited opposed allowance keys wide filled count stopped f =
+    start t limits lowest limited opposed allowance keys wide filled count stopped f tabled =
         let g : (s : ℕ) → s < 2 ^ q → getD keys s 0 ≡ keyOf v (n .level - 1) (n .bits) (n .partial) s =
         λ s h. filled .each s h ∙ key-by m q numbers (w .asked .vector) clip (n .level - 1) (n .bits) (n .partial) s (row-inside w inner)
         in
         record {
           node = w;
           inner = inner;
+          tabled = tabled;
           room = wide;
           rows = filled .rows;
           lowest = lowest;
@@ -112,33 +117,20 @@ module _ {m q clip : ℕ} {numbers : List ℤ} {n : Node} (w : NodeIn m q clip n
         }
 
 -- A turn
-module _ {m q clip : ℕ} {numbers : List ℤ} {allowance : ℕ} {n : Node} {whole : Kept} {tried : ℕ} {keys : List ℕ} {k : Kept}
-    {limits : List ℕ} (h : Searching m q clip numbers allowance n whole tried keys k limits) where
+module _ {m q clip : ℕ} {numbers tables : List ℤ} {allowance : ℕ} {n : Node} {whole : Kept} {tried : ℕ} {keys : List ℕ} {k : Kept}
+    {limits : List ℕ} (h : Searching m q clip numbers tables allowance n whole tried keys k limits) where
   abbrev w : NodeIn m q clip numbers n
   w = h .node
 
   abbrev at : Vector
   at = vectorAt m q clip numbers
 
-  -- What a turn asks of the node, its limits and keys
-  pub next-asked : NextAsked m q n limits keys
-  next-asked = record {
-    bits = w .asked .vector .bits;
-    streams = w .asked .vector .streams;
-    inner = h .inner;
-    inside = w .inside;
-    few = chosen-few w;
-    placed = node-placed w;
-    size = h .limited .asked .size;
-    rows = h .rows;
-  }
-
   -- No child is left
   pub done : 2 ^ q ≤ tried → k ≡ whole
   done e = sym (h .left ∙ rest-done at (2 ^ q) refl allowance (n .bits) (n .level - 1) tried keys k e)
 
   module _ (more : tried < 2 ^ q) where
-    -- The next child: its symbol, its partial metric
+    -- The next child: its symbol, its partial metric, which is that of the node's child
     abbrev s : ℕ
     s = leastFirst keys (2 ^ q)
 
@@ -146,27 +138,40 @@ module _ {m q clip : ℕ} {numbers : List ℤ} {allowance : ℕ} {n : Node} {who
     d = getD keys s 0
 
     abbrev next : Node
-    next = nextOf m q n (k .taken .label) limits keys
-
-    low : d ≤ largestPartial at (n .level - 1)
-    low = held-least (h .held) more s refl
-
-    key-low : d ≤ above
-    key-low = le-of-lt (lt-of-le-of-lt low (partial-low at (in-range w) (n .level - 1)))
+    next = nextOf m q n (k .taken .label) tables limits keys
 
     symbol : s < 2 ^ q
     symbol = symbol-inside keys q (2 ^ q) s refl refl
 
+    key-is : d ≡ kidOf m q numbers n s
+    key-is =
+        held-least (h .held) more s refl
+        ∙ sym (key-by m q numbers (w .asked .vector) clip (n .level - 1) (n .bits) (n .partial) s (row-inside w (h .inner)))
+
+    key-low : d ≤ above
+    key-low = next-low w (h .inner) (h .tabled) keys key-is
+
     child-is : next .bits ≡ childIn at (n .level - 1) (n .bits) s
-    child-is = child-by at (n .level) (some w (h .inner)) (within w) m (n .bits) s (next .bits) (sym (streams w)) refl
+    child-is = next-bits w (h .inner) (h .tabled) keys key-is (k .taken .label) limits
 
     -- It is a node of the vector
     pub child-in : NodeIn m q clip numbers next
-    child-in = record {
-      asked = w .asked;
-      inside = omega (arith, w .inside);
-      placed = child-placed at (n .level) (some w (h .inner)) (within w) (n .bits) s (next .bits) symbol (w .placed) child-is;
-      bounded = low;
+    child-in = next-in w (h .inner) (h .tabled) keys key-is (k .taken .label) limits
+
+    -- What a turn asks of the node, its limits and keys
+    pub next-asked : NextAsked m q n tables limits keys
+    next-asked = record {
+      bits = w .asked .vector .bits;
+      streams = w .asked .vector .streams;
+      inner = h .inner;
+      inside = w .inside;
+      few = chosen-few w;
+      placed = node-placed w;
+      size = h .limited .asked .size;
+      rows = h .rows;
+      low = key-low;
+      priced = next-priced w (h .inner) (h .tabled) keys key-is;
+      within = next-within w (h .inner) (h .tabled) keys key-is;
     }
 
     -- What its chosen bits give
@@ -213,13 +218,14 @@ module _ {m q clip : ℕ} {numbers : List ℤ} {allowance : ℕ} {n : Node} {who
 
       -- One child more is tried
       abbrev Further : Kept → Type 0
-      Further u = Searching m q clip numbers allowance n whole (tried + 1) after u limits
+      Further u = Searching m q clip numbers tables allowance n whole (tried + 1) after u limits
 
       onward-with : (u : Kept) → u .taken ≡ k .taken → u .stopped ≡ false
           → whole ≡ restOf at allowance (n .level - 1) (n .bits) (2 ^ q - (tried + 1)) (set keys s above) u → Further u
       onward-with u e f g = record {
         node = w;
         inner = h .inner;
+        tabled = h .tabled;
         room = next-room;
         rows = took .rows;
         lowest = rw e (h .lowest);
@@ -276,7 +282,7 @@ module _ {m q clip : ℕ} {numbers : List ℤ} {allowance : ℕ} {n : Node} {who
           pub onward : u .stopped ≡ false → {limits′ : List ℕ} → Limited at (u .taken) limits′
               → (tail : List ℕ) → length (take (keyCount q) after ++ tail) ≡ length after
               → (new : Node) → Renewal m q (u .taken .label) limits′ n new
-              → Searching m q clip numbers allowance new whole (tried + 1) (take (keyCount q) after ++ tail) u limits′
+              → Searching m q clip numbers tables allowance new whole (tried + 1) (take (keyCount q) after ++ tail) u limits′
           onward x {limits′} l tail lt new e =
               let wide : keyCount q ≤ length after = room-for (n .level) q (h .inner) (length after) next-room in
               let same = same-part (2 ^ q) (keyCount q) after tail (omega arith) wide in
@@ -286,8 +292,14 @@ module _ {m q clip : ℕ} {numbers : List ℤ} {allowance : ℕ} {n : Node} {who
                   inside = w .inside;
                   placed = w .placed;
                   bounded = w .bounded;
+                  parts = record {
+                    partial-is = w .parts .partial-is;
+                    distance-is = e .distance-is ∙ w .parts .distance-is;
+                    cost-is = e .cost-is ∙ w .parts .cost-is;
+                  };
                 };
                 inner = h .inner;
+                tabled = h .tabled;
                 room = omega (arith, next-room);
                 rows = row-least-front q after tail (took .rows);
                 lowest = le-trans (kept-falls at allowance (n .level - 1) (next .bits) d _ u is .best) (h .lowest);
@@ -305,8 +317,8 @@ module _ {m q clip : ℕ} {numbers : List ℤ} {allowance : ℕ} {n : Node} {who
           -- The same where nothing is put there: the child is a leaf
           pub onward-here : u .stopped ≡ false → {limits′ : List ℕ} → Limited at (u .taken) limits′
               → (new : Node) → Renewal m q (u .taken .label) limits′ n new
-              → Searching m q clip numbers allowance new whole (tried + 1) after u limits′
+              → Searching m q clip numbers tables allowance new whole (tried + 1) after u limits′
           onward-here x {limits′} l new e =
               let same = take-append-drop (keyCount q) after in
-              subst (λ (l : List ℕ). Searching m q clip numbers allowance new whole (tried + 1) l u limits′) same
+              subst (λ (l : List ℕ). Searching m q clip numbers tables allowance new whole (tried + 1) l u limits′) same
               (onward x l (drop (keyCount q) after) (ap length same) new e)

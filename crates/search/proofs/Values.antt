@@ -3,13 +3,15 @@ use Prim.Native.Nat.{ℕ, suc, _-_, _*_, _≤_, _<_}
 use mathlib.Core.Path.{_≡_, refl, sym, _∙_, ap, ap₂, subst}
 use mathlib.Core.Bool.{Bool}
 use mathlib.Core.Logic.{⊎-elim}
-use mathlib.Core.List.{List, map, _++_}
+use mathlib.Core.List.{List, [], map, _++_}
 use native.Mathlib.Nat.{le-refl, le-trans, mul-le-mul, suc-mul}
 use native.Mathlib.Omega.{arith}
 use lib.IntN.{ℤ}
 use lib.ListN.{length, take, drop, replicate}
 use lib.Pow.{pow-pos}
-use Rattle.model.specs.Metric.{Vector, labelBits}
+use lib.Seq.{drop-length}
+use Rattle.model.specs.Constellation.{Bits, bitsOf}
+use Rattle.model.specs.Metric.{Row, Vector, metric, distance, cost, distanceOf, labelBits}
 use Rattle.model.specs.Soft.{places}
 use Rattle.model.specs.Block.{Answer, emptySide, answer, mostBits}
 use Rattle.model.proofs.Bounds.{largest-pair}
@@ -18,6 +20,7 @@ use Rattle.metric.specs.Parts.{filled}
 use Rattle.metric.proofs.Filled.{filled-same}
 use Rattle.search_spec.specs.Program.{above, Taken, takenOf, takenIn, limitsOf, keptOf, fresh, chosen, below, valueOf, answerOf}
 use Rattle.search_spec.specs.Reach.{widestOf}
+use Rattle.search_spec.specs.Parts.{nodeSum, BestParts}
 use Rattle.limits.specs.Reach.{limitsSize, chosenReach}
 use Rattle.enumeration.specs.Rows.{keyCount}
 use Rattle.hypotheses.specs.Limits.{vectorAt, SearchAsked, minimaSize, LimitsAsked}
@@ -29,9 +32,10 @@ use Rattle.hypotheses.proofs.Values.{bits-are, value-same}
 use Rattle.search.specs.Values.{Answered}
 use Rattle.search_spec.proofs.Arrays.{part-length}
 use Rattle.search_spec.proofs.Answer.{answered, soft-is}
-use Rattle.search_spec.proofs.Bounds.{minima-low}
+use Rattle.search_spec.proofs.Bounds.{minima-low, best-found}
 use Rattle.expansion.proofs.Rows.{ranged}
 use Rattle.expansion.proofs.Nodes.{keys-rise}
+use Rattle.tree.specs.declared.Kept.{Kept as Held}
 
 -- Behind a node's keys there is room for those of the levels below
 pub room-below : (level q : ℕ) → 0 < level → (keys : List ℕ) → level * keyCount q ≤ length keys
@@ -56,15 +60,27 @@ module _ {m q clip : ℕ} {numbers : List ℤ} (h : SearchAsked m q clip numbers
   abbrev pub untaken : List ℕ
   untaken = replicate minimaSize above
 
+  -- No row's term is in the root's sums
+  none-yet : (sum : ℕ → List Row → Bits → ℕ) → ((b : Bits) → sum q [] b ≡ 0) → 0 ≡ nodeSum sum (vectorAt m q clip numbers) m 0
+  none-yet sum none =
+      let v = vectorAt m q clip numbers in
+      let rows : drop m (v .rows) ≡ [] = ap (λ (n : ℕ). drop n (v .rows)) (sym (rows-count m q numbers)) ∙ drop-length (v .rows) in
+      sym (ap (λ (l : List Row). sum q l (bitsOf (chosen v m) 0)) rows ∙ none _)
+
   -- What the walk from the root asks
   pub root-asked : (keys : List ℕ) → m * keyCount q ≤ length keys
-      → NodeAsked m q clip numbers (record { level = m; bits = 0; partial = 0; chosen = 0 }) (takenIn 0 above untaken) (limitsOf untaken) keys
+      → NodeAsked m q clip numbers (record { level = m; bits = 0; partial = 0; distance = 0; cost = 0; chosen = 0 }) (takenIn 0 above untaken) (limitsOf untaken) keys
   root-asked keys wide = record {
     node = record {
       asked = h;
       inside = le-refl m;
       placed = pow-pos (chosen (vectorAt m q clip numbers) m);
       bounded = omega arith;
+      parts = record {
+        partial-is = none-yet metric (λ b. unfold metric in refl);
+        distance-is = none-yet distance (λ b. unfold distance in refl);
+        cost-is = none-yet cost (λ b. unfold cost in refl);
+      };
     };
     lowest = le-refl above;
     limited = record {
@@ -91,11 +107,13 @@ module _ {m q clip : ℕ} {numbers : List ℤ} (h : SearchAsked m q clip numbers
     -- and is the model's answer, where `empty` is what an empty side gives
     pub end-answered : (weak : ℕ) {empty : ℕ} → empty ≡ emptySide stopped weak clip → (before after : List ℤ) → length before ≡ mostBits
         → after ≡ filled (valueOf (vectorAt m q clip numbers) empty (takenOf 0 0 (t .zeros) (t .ones))) (m * q) before
-        → Answered (vectorAt m q clip numbers) weak allowance stopped count (t .label) before after
-    end-answered weak {empty} chosen before after room f = record {
+        → m ≤ allowance → (k : Held) → k .best ≡ t .best → k .label ≡ t .label → BestParts (vectorAt m q clip numbers) k
+        → Answered (vectorAt m q clip numbers) weak allowance stopped count (t .label) (k .distance) before after
+    end-answered weak {empty} chosen before after room f most k eb el kept = record {
       stopped-is = ap (λ (x : Answer). x .stopped) same;
       count-is = ap (λ (x : Answer). x .count) same;
       label-is = ap (λ (x : Answer). x .result .label) same;
+      distance-is = kept .distance-is found ∙ ap (λ (l : ℕ). distanceOf v (bitsOf (labelBits v) l)) (el ∙ ap (λ (x : Answer). x .result .label) same);
       soft-is = f ∙ values ∙ ap₂ (λ (e n : ℕ). filled (valueOf v e t) n before) chosen bits ∙ front;
     }
       where
@@ -110,6 +128,11 @@ module _ {m q clip : ℕ} {numbers : List ℤ} (h : SearchAsked m q clip numbers
 
         from : keptOf count stopped t ≡ below v allowance (length (v .rows)) 0 0 (fresh mostBits)
         from = e ∙ ap (λ (l : ℕ). below v allowance l 0 0 (fresh mostBits)) (sym (rows-count m q numbers))
+
+        -- There is a best label
+        found : k .best < above
+        found =
+            rw eb (best-found v (ranged _ _ _ _ h) allowance mostBits wide (rw (rows-count m q numbers) most) from)
 
         value : ℕ → ℤ
         value = valueOf v (emptySide stopped weak clip) t

@@ -14,7 +14,8 @@ ghost use lib.ListN.{length};
 ghost use Rattle.model.specs.Block.{emptySide, mostStreams, mostWidth, mostBits};
 ghost use Rattle.constellation.specs.Points.{Points};
 ghost use Rattle.metric.specs.Tables.{Tabled};
-ghost use Rattle.search_spec.specs.Program.{above, takenIn, limitsOf, keptOf, noted, below};
+ghost use Rattle.search_spec.specs.Program.{takenIn, limitsOf, keptOf, below};
+ghost use Rattle.search_spec.specs.Parts.{BestParts};
 ghost use Rattle.limits.specs.Reach.{limitsSize};
 ghost use Rattle.enumeration.specs.Rows.{keyCount, LeastRow};
 ghost use Rattle.hypotheses.specs.Limits.{vectorFor, Asked, minimaSize, Limited};
@@ -60,29 +61,37 @@ fn with_symbol(symbol: usize, bits: usize, node: u32) -> u32
     ((symbol as u32) << bits) | node
 }
 
-// The next child, the first of the smallest keys, which is then above every metric. Its chosen bits are those of its own symbol and its
-// parent's.
+// The next child, the first of the smallest keys, which is then above every metric: squared distance, prior cost and their sum. Its chosen bits
+// are those of its own symbol and its parent's.
 fn next_child(
     task: Task,
     node: Node,
     next: Row,
     label: u32,
+    tables: &[i32; TABLE],
     limits: &[u64],
     keys: &mut [u64],
 ) -> Node
-    requires { ⌜ NextAsked (task .streams) (task .width) node (now limits) (now keys)
+    requires { ⌜ NextAsked (task .streams) (task .width) node (now tables) (now limits) (now keys)
         × LeastRow (task .width) (now keys) (next .row) (next .key) ⌝ }
-    ensures { λ r. ⌜ NextChild (task .streams) (task .width) node label (now (limits .entry)) (now (keys .entry)) (now (keys .exit)) r ⌝ }
+    ensures { λ r. ⌜ NextChild (task .streams) (task .width) node label (now (tables .entry)) (now (limits .entry)) (now (keys .entry))
+        (now (keys .exit)) r ⌝ }
 {
     let q = task.width;
     let after = (task.streams - node.level) * q;
     let symbol = enumeration::take(q, next.row, keys);
     let own = metric::symbol_at(label, q, after);
     let level = node.level - 1;
+    let columns: usize = 1 << (q / 2);
+    let imaginary = symbol - next.row * columns;
+    let before = node.cost;
+    let cost = before + metric::symbol_cost(tables, level, next.row, imaginary);
     Node {
         level,
         bits: with_symbol(symbol, after, node.bits),
         partial: next.key,
+        distance: next.key - cost,
+        cost,
         chosen: integers::larger(
             limits::stream_reach(q, limits, level, symbol ^ own),
             node.chosen,
@@ -93,25 +102,31 @@ fn next_child(
 // One node more is counted.
 fn counted(kept: Kept) -> Kept
     requires { ⌜ kept .count < 2 ^ 32 - 1 ⌝ }
-    ensures { λ r. ⌜ (r .count ≡ kept .count + 1) × (r .stopped ≡ kept .stopped) × (r .label ≡ kept .label) × (r .best ≡ kept .best) ⌝ }
+    ensures { λ r. ⌜ (r .count ≡ kept .count + 1) × (r .stopped ≡ kept .stopped) × (r .label ≡ kept .label) × (r .best ≡ kept .best)
+        × (r .distance ≡ kept .distance) × (r .cost ≡ kept .cost) ⌝ }
 {
     Kept {
         count: kept.count + 1,
         stopped: kept.stopped,
         label: kept.label,
         best: kept.best,
+        distance: kept.distance,
+        cost: kept.cost,
     }
 }
 
 // The allowance is used up.
 fn halted(kept: Kept) -> Kept
-    ensures { λ r. ⌜ (r .count ≡ kept .count) × (r .stopped ≡ true) × (r .label ≡ kept .label) × (r .best ≡ kept .best) ⌝ }
+    ensures { λ r. ⌜ (r .count ≡ kept .count) × (r .stopped ≡ true) × (r .label ≡ kept .label) × (r .best ≡ kept .best)
+        × (r .distance ≡ kept .distance) × (r .cost ≡ kept .cost) ⌝ }
 {
     Kept {
         count: kept.count,
         stopped: true,
         label: kept.label,
         best: kept.best,
+        distance: kept.distance,
+        cost: kept.cost,
     }
 }
 
@@ -128,13 +143,14 @@ fn advance(
     keys: &mut [u64],
 ) -> Turn
     requires { ⌜ AdvanceAsked task (now points) (now numbers) (now tables) node kept (now limits) (now keys) ⌝ }
-    ensures { λ r. ⌜ Advanced task (now (numbers .entry)) node kept (now (limits .entry)) (now (keys .entry)) (now (keys .exit)) r ⌝ }
+    ensures { λ r. ⌜ Advanced task (now (numbers .entry)) (now (tables .entry)) node kept (now (limits .entry)) (now (keys .entry))
+        (now (keys .exit)) r ⌝ }
 {
     let next = enumeration::least_row(task.width, keys);
     if !passes(kept, limits, next.key, node.level, node.chosen) {
         return Turn::Ended;
     }
-    let child = next_child(task, node, next, kept.label, limits, keys);
+    let child = next_child(task, node, next, kept.label, tables, limits, keys);
     if !passes(kept, limits, child.partial, child.level, child.chosen) {
         return Turn::Cut;
     }
@@ -177,6 +193,8 @@ fn renew_node(task: Task, node: Node, label: u32, limits: &[u64]) -> Node
         level: node.level,
         bits: node.bits,
         partial: node.partial,
+        distance: node.distance,
+        cost: node.cost,
         chosen: limits::chosen(
             task.streams,
             task.width,
@@ -203,12 +221,14 @@ fn walk(
         (takenIn (kept .label) (kept .best) (now minima)) (limitsOf (now minima)) (now keys)
         × (kept .stopped ≡ false) × Tabled (task .streams) (task .width) (now numbers) (now tables)
         × (length (now minima) ≡ minimaSize) × Points (task .width) (now points)
-        × (0 < node .level) × Filled (task .streams) (task .width) (now numbers) node (now keys) ⌝ }
+        × (0 < node .level) × Filled (task .streams) (task .width) (now numbers) node (now keys)
+        × BestParts (vectorFor task (now numbers)) kept ⌝ }
     ensures { λ r. ⌜ (keptOf (r .count) (r .stopped) (takenIn (r .label) (r .best) (now (minima .exit)))
         ≡ below (vectorFor task (now (numbers .entry))) (task .allowance) (node .level) (node .bits) (node .partial)
         (keptOf (kept .count) false (takenIn (kept .label) (kept .best) (now (minima .entry)))))
         × Limited (vectorFor task (now (numbers .entry))) (takenIn (r .label) (r .best) (now (minima .exit)))
-        (limitsOf (now (minima .exit))) × (length (now (minima .exit)) ≡ minimaSize) ⌝ }
+        (limitsOf (now (minima .exit))) × (length (now (minima .exit)) ≡ minimaSize)
+        × BestParts (vectorFor task (now (numbers .entry))) r ⌝ }
 {
     let places = key_places(task.width);
     let n: usize = 1 << task.width;
@@ -260,11 +280,11 @@ fn begin(
     requires { ⌜ NodeAsked (task .streams) (task .width) (task .clip) (now numbers) root
         (takenIn (kept .label) (kept .best) (now minima)) (limitsOf (now minima)) (now keys) × (0 < root .level)
         × (kept .stopped ≡ false) × Tabled (task .streams) (task .width) (now numbers) (now tables)
-        × (length (now minima) ≡ minimaSize) × Points (task .width) (now points) ⌝ }
+        × (length (now minima) ≡ minimaSize) × Points (task .width) (now points) × BestParts (vectorFor task (now numbers)) kept ⌝ }
     ensures { λ r. ⌜ (keptOf (r .count) (r .stopped) (takenIn (r .label) (r .best) (now (minima .exit)))
         ≡ below (vectorFor task (now (numbers .entry))) (task .allowance) (root .level) (root .bits) (root .partial)
         (keptOf (kept .count) false (takenIn (kept .label) (kept .best) (now (minima .entry)))))
-        × (length (now (minima .exit)) ≡ minimaSize) ⌝ }
+        × (length (now (minima .exit)) ≡ minimaSize) × BestParts (vectorFor task (now (numbers .entry))) r ⌝ }
 {
     let row = root.level - 1;
     let left = metric::remainder(points, numbers, task.streams, task.width, row, root.bits);
@@ -274,11 +294,12 @@ fn begin(
     walk(task, root, kept, points, numbers, tables, minima, keys)
 }
 
-// What a reply says of a vector, but for its soft values.
+// What a reply says of a vector, but for its soft values, and the label's squared distance.
 pub struct Found {
     pub stopped: bool,
     pub count: u32,
     pub label: u32,
+    pub distance: u64,
 }
 
 // What an empty side gives: W in a stopped vector, else C.
@@ -288,8 +309,8 @@ fn empty_side(stopped: bool, weak: u32, clip: u32) -> u32
     if stopped { weak } else { clip }
 }
 
-// One vector's search under an allowance: its answer, the soft values at the front of `soft`. `weak` is W, which the walk is not told;
-// `points` are those of the constellation, and `keys` is room to work in.
+// One vector's search under an allowance of M nodes or more: its answer, the soft values at the front of `soft`. `weak` is W, which the walk is
+// not told; `points` are those of the constellation, and `keys` is room to work in.
 pub fn search_vector(
     task: Task,
     weak: u32,
@@ -299,8 +320,8 @@ pub fn search_vector(
     soft: &mut [i32; 24],
 ) -> Found
     requires { ⌜ Asked task (now numbers) × (weak ≤ task .clip) × (length (now soft) ≡ 24) × (keyPlaces ≤ length (now keys))
-        × Points (task .width) (now points) ⌝ }
-    ensures { λ r. ⌜ Answered (vectorFor task (now (numbers .entry))) weak (task .allowance) (r .stopped) (r .count) (r .label)
+        × Points (task .width) (now points) × (task .streams ≤ task .allowance) ⌝ }
+    ensures { λ r. ⌜ Answered (vectorFor task (now (numbers .entry))) weak (task .allowance) (r .stopped) (r .count) (r .label) (r .distance)
         (now (soft .entry)) (now (soft .exit)) ⌝ }
 {
     let mut tables = [0i32; TABLE];
@@ -312,11 +333,15 @@ pub fn search_vector(
         stopped: false,
         label: 0,
         best: ABOVE,
+        distance: 0,
+        cost: 0,
     };
     let root = Node {
         level: task.streams,
         bits: 0,
         partial: 0,
+        distance: 0,
+        cost: 0,
         chosen: 0,
     };
     let end = begin(
@@ -335,5 +360,6 @@ pub fn search_vector(
         stopped: end.stopped,
         count: end.count,
         label: end.label,
+        distance: end.distance,
     }
 }

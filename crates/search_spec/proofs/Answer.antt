@@ -71,11 +71,16 @@ module _ (v : Vector) (r : Ranged v) where
       let ranged = last-rows (v .width) todo done (subst (RowsInRange (v .width)) (sym e) (r .rows)) in
       omega (arith, rows-low (length done) few, metric-bound (v .width) done ranged bits)
 
-  -- The program's answer is the model's, whatever W is and under any allowance
+  -- What the program keeps is what the model's search keeps
+  pub agrees-in : (allowance room : ℕ) → labelBits v ≤ room
+      → Agrees v (search v allowance) (below v allowance (length (v .rows)) 0 0 (fresh room))
+  agrees-in allowance room h = search-agrees v allowance metric-low (r .bit) room h (r .stream)
+
+  -- so its answer is the model's, whatever W is and under any allowance
   pub replied-is : (weak allowance room : ℕ) → labelBits v ≤ room
       → replied v weak (below v allowance (length (v .rows)) 0 0 (fresh room)) ≡ answer v weak allowance
   replied-is weak allowance room h =
-      same-answer v weak _ allowance (search-agrees v allowance metric-low (r .bit) room h (r .stream)) ∙ search-answers v (r .bit) allowance weak
+      same-answer v weak _ allowance (agrees-in allowance room h) ∙ search-answers v (r .bit) allowance weak
 
   -- What a program has kept at the end
   module _ (weak allowance room : ℕ) (h : labelBits v ≤ room) {count : ℕ} {stopped : Bool} {t : Taken}

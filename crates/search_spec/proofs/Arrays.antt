@@ -179,31 +179,33 @@ untaken-set top keys s x (suc n) = go (ℕ-discrete n s) (untaken-set top keys s
     go (yes e) ih = let h : n ≤ s = omega arith in omega (arith, one (ltb (getD keys n 0) top), untaken-same top keys s x n h)
     go (no e) ih = rw (getD-set-other keys s n x 0 e) (omega arith)
 
--- The keys of a loop over n children after k turns: each is at most `most`, or taken, and at most k are taken
-pub record Held (top n most k : ℕ) (keys : List ℕ) : Type 0 where
-  pub each : (i : ℕ) → i < n → (getD keys i 0 ≤ most) ⊎ (getD keys i 0 ≡ top)
+-- The keys of a loop over n children after k turns: each is its child's own, or taken, and at most k are taken
+pub record Held (top n : ℕ) (own : ℕ → ℕ) (k : ℕ) (keys : List ℕ) : Type 0 where
+  pub each : (i : ℕ) → i < n → (getD keys i 0 ≡ own i) ⊎ (getD keys i 0 ≡ top)
   pub left : n ≤ untaken top keys n + k
 
 -- At first none is taken
-pub held-start : (top n most : ℕ) (keys : List ℕ) → most < top → ((i : ℕ) → i < n → getD keys i 0 ≤ most) → Held top n most 0 keys
-held-start top n most keys low h = record {
+pub held-start : (top n : ℕ) (own : ℕ → ℕ) (keys : List ℕ) → ((i : ℕ) → i < n → own i < top) → ((i : ℕ) → i < n → getD keys i 0 ≡ own i)
+    → Held top n own 0 keys
+held-start top n own keys low h = record {
   each = λ i k. inl (h i k);
-  left = omega (arith, untaken-all top keys n (λ i k. omega (arith, h i k)));
+  left = omega (arith, untaken-all top keys n (λ i k. omega (arith, h i k, low i k)));
 }
 
 -- While a turn is left, so is a key: the first smallest one is not taken
-pub held-least : {top n most k : ℕ} {keys : List ℕ} → Held top n most k keys → k < n
-    → (s : ℕ) → s ≡ leastFirst keys n → getD keys s 0 ≤ most
-held-least {top} {n} {most} {k} {keys} h more s e = rw e (go (h .each (leastFirst keys n) (least-below keys n (omega arith))))
+pub held-least : {top n : ℕ} {own : ℕ → ℕ} {k : ℕ} {keys : List ℕ} → Held top n own k keys → k < n
+    → (s : ℕ) → s ≡ leastFirst keys n → getD keys s 0 ≡ own s
+held-least {top} {n} {own} {k} {keys} h more s e = rw e (go (h .each (leastFirst keys n) (least-below keys n (omega arith))))
   where
-    go : (getD keys (leastFirst keys n) 0 ≤ most) ⊎ (getD keys (leastFirst keys n) 0 ≡ top) → getD keys (leastFirst keys n) 0 ≤ most
-    go (inl low) = low
+    go : (getD keys (leastFirst keys n) 0 ≡ own (leastFirst keys n)) ⊎ (getD keys (leastFirst keys n) 0 ≡ top)
+        → getD keys (leastFirst keys n) 0 ≡ own (leastFirst keys n)
+    go (inl mine) = mine
     go (inr high) = absurd (omega (arith, h .left, untaken-none top keys n (λ i l. omega (arith, least-le keys n i l))))
 
 -- One turn takes one key
-pub held-set : {top n most k : ℕ} {keys : List ℕ} → Held top n most k keys → (s : ℕ) → Held top n most (k + 1) (set keys s top)
-held-set {top} {n} {most} {k} {keys} h s = record {
-  each = λ i l. set-each (λ (x : ℕ). (x ≤ most) ⊎ (x ≡ top)) keys s top i (inr refl) (h .each i l);
+pub held-set : {top n : ℕ} {own : ℕ → ℕ} {k : ℕ} {keys : List ℕ} → Held top n own k keys → (s : ℕ) → Held top n own (k + 1) (set keys s top)
+held-set {top} {n} {own} {k} {keys} h s = record {
+  each = λ i l. set-each (λ (x : ℕ). (x ≡ own i) ⊎ (x ≡ top)) keys s top i (inr refl) (h .each i l);
   left = omega (arith, h .left, untaken-set top keys s top n);
 }
 
@@ -213,8 +215,8 @@ untaken-alike top n zero h s = refl
 untaken-alike top n (suc k) h s =
     ap₂ (λ (x y : ℕ). cond (ltb x top) 1 0 + y) (s .keys k (omega arith)) (untaken-alike top n k (omega arith) s)
 
-pub held-same : {top n most k : ℕ} {a b : List ℕ} → Same n a b → Held top n most k a → Held top n most k b
-held-same {top} {n} {most} {k} {a} {b} s h = record {
+pub held-same : {top n : ℕ} {own : ℕ → ℕ} {k : ℕ} {a b : List ℕ} → Same n a b → Held top n own k a → Held top n own k b
+held-same {top} {n} {own} {k} {a} {b} s h = record {
   each = λ i l. rw (← s .keys i l) (h .each i l);
   left = rw (← untaken-alike top n n (le-refl n) s) (h .left);
 }

@@ -5,23 +5,28 @@ use mathlib.Core.Path.{_≡_, sym, _∙_, ap, subst}
 use mathlib.Core.Bool.{Bool, true, false, cond, Bool·beq}
 use mathlib.Core.List.{List, [], _∷_, _++_}
 use native.Mathlib.Decide.{ℕ-discrete}
-use native.Mathlib.Nat.{le-refl, le-trans, mul-le-mul, suc-mul}
+use native.Mathlib.Nat.{le-refl, le-trans, lt-of-le-of-lt, mul-le-mul, suc-mul}
 use native.Mathlib.Omega.{arith}
 use lib.Dec.{ltb}
 use lib.ListN.{length, getD, set, replicate}
 use lib.Seq.{getD-set-other}
 use lib.Pow.{pow-add, pow-pos}
 use Rattle.model.specs.Constellation.{bitsOf}
-use Rattle.model.specs.Metric.{Row, Vector, labelBits}
-use Rattle.model.specs.Block.{RowInRange, RowsInRange}
+use Rattle.model.specs.Metric.{Row, Vector, metricOf, labelBits}
+use Rattle.model.specs.Soft.{finite, pick}
+use Rattle.model.specs.Block.{walkedLabels, RowInRange, RowsInRange}
+use Rattle.model.specs.Search.{Search, search}
+use Rattle.model.proofs.Least.{pick-metric}
+use Rattle.model.proofs.Lead.{some-leaf}
+use Rattle.model.proofs.Search.{search-is}
 use Rattle.model.proofs.Bounds.{largestMetric, increment-bound}
 use Rattle.metric.specs.Parts.{filled}
 use Rattle.search_spec.specs.Arrays.{leastFirst}
 use Rattle.metric.specs.Parts.{bitOf}
-use Rattle.search_spec.specs.Program.{above, largestPartial, Ranged, Taken, Kept, keptOf, fresh, loweredAt, lowered, noted}
+use Rattle.search_spec.specs.Program.{above, sideOf, largestPartial, Ranged, Taken, Kept, keptOf, fresh, loweredAt, lowered, noted}
 use Rattle.search_spec.specs.Program.{noRow, chosen, keyOf, childIn, keysOf, onward, siblings, testOf, below}
 use Rattle.search_spec.proofs.Arrays.{least-below, set-each, Held, held-start}
-use Rattle.search_spec.proofs.Answer.{rows-low}
+use Rattle.search_spec.proofs.Answer.{rows-low, agrees-in}
 
 -- B and each minimum are at most what they were
 pub record Falls (t u : Taken) : Type 0 where
@@ -104,6 +109,11 @@ pub kept-falls : (v : Vector) (allowance level node d : ℕ) (k w : Kept) → w 
 kept-falls v allowance level node d k w e =
     subst (λ (x : Kept). Falls (k .taken) (x .taken)) (sym e) (below-falls v allowance level node d k)
 
+-- The sentinel is no metric
+finite-side : (u m : ℕ) → sideOf u ≡ finite m → u ≡ above → ⊥
+unfolding sideOf
+finite-side u m e h = let z : _≡_ {A = ℕ} 0 1 = cc in absurd (omega arith)
+
 fresh-low : (room i : ℕ) → getD (replicate room above) i 0 ≤ above
 fresh-low zero i = omega arith
 fresh-low (suc room) zero = omega arith
@@ -116,6 +126,21 @@ pub minima-low : (v : Vector) (allowance level node d room : ℕ) {count : ℕ} 
 minima-low v allowance level node d room {t} e i =
     let f = kept-falls v allowance level node d (fresh room) _ e in
     (le-trans (f .zeros i) (fresh-low room i), le-trans (f .ones i) (fresh-low room i))
+
+-- and under an allowance of M nodes or more there is a best label: the first M nodes lead to a leaf
+pub best-found : (v : Vector) → Ranged v → (allowance room : ℕ) → labelBits v ≤ room → length (v .rows) ≤ allowance
+    → {count : ℕ} {stopped : Bool} {t : Taken} → keptOf count stopped t ≡ below v allowance (length (v .rows)) 0 0 (fresh room) → t .best < above
+best-found v r allowance room wide most {count} {stopped} {t} e =
+    lower (kept-falls v allowance (length (v .rows)) 0 0 (fresh room) _ e .best) (finite-side (t .best) _ side)
+  where
+    side : sideOf (t .best) ≡ finite (metricOf v (pick v (walkedLabels v allowance)))
+    side =
+        subst (λ (k : Kept). sideOf (k .taken .best) ≡ search v allowance .least) (sym e) (agrees-in v r allowance room wide .least)
+        ∙ ap (λ (s : Search). s .least) (search-is v (r .bit) allowance)
+        ∙ pick-metric v (walkedLabels v allowance) (some-leaf v (r .bit) (r .stream) allowance most .1)
+
+    lower : {a b : ℕ} → a ≤ b → (a ≡ b → ⊥) → a < b
+    lower h ne = omega arith
 
 -- The first smallest of n = 2 ^ q keys is that of a symbol
 pub symbol-inside : (keys : List ℕ) (q n s : ℕ) → n ≡ 2 ^ q → s ≡ leastFirst keys n → s < 2 ^ q
@@ -173,9 +198,11 @@ module _ (v : Vector) (level : ℕ) (inner : level ≡ 0 → ⊥) (inside : leve
         let row = rw same at (row-ranged (v .width) (v .rows) (level - 1) (omega arith) (r .rows)) in
         rw more (omega (arith, increment-bound row (bitsOf (v .width) s ++ bitsOf (chosen v (suc (level - 1))) node), low))
 
-    -- and so are the keys of all
+    -- which the sentinel is above
+    pub key-low : (node s : ℕ) → keyOf v (level - 1) node d s < above
+    key-low node s = lt-of-le-of-lt (key-bound node s) (partial-low v r (level - 1))
+
+    -- At first the keys are the children's own
     pub keys-held : (node : ℕ) (keys : List ℕ) → ((s : ℕ) → s < 2 ^ v .width → getD keys s 0 ≡ keyOf v (level - 1) node d s)
-        → Held above (2 ^ v .width) (largestPartial v (level - 1)) 0 keys
-    keys-held node keys each =
-        held-start above (2 ^ v .width) (largestPartial v (level - 1)) keys (partial-low v r (level - 1))
-        (λ i h. rw (each i h) (key-bound node i))
+        → Held above (2 ^ v .width) (keyOf v (level - 1) node d) 0 keys
+    keys-held node keys each = held-start above (2 ^ v .width) (keyOf v (level - 1) node d) keys (λ i h. key-low node i) each

@@ -10,3 +10,4 @@ pub mod Minima
 pub mod Steps
 pub mod Turns
 pub mod Early
+pub mod Parts

@@ -1,3 +1,4 @@
 pub mod Arrays
 pub mod Program
 pub mod Reach
+pub mod Parts

@@ -9,19 +9,24 @@ pub struct Task {
     pub allowance: u32,
 }
 
-// A node: how many streams are not chosen yet, its partial metric, the widest limit of those of its bits that are opposite to the best
-// label's, and the bits that are chosen, as a number. With no stream left to choose it is a leaf, and these are a label and its metric.
+// A node: how many streams are not chosen yet, its partial metric with its two parts, the squared distance and the prior cost of the streams
+// that are chosen, the widest limit of those of its bits that are opposite to the best label's, and the bits that are chosen, as a number.
+// With no stream left to choose it is a leaf, and these are a label and its metric.
 pub struct Node {
     pub level: usize,
     pub partial: u64,
+    pub distance: u64,
+    pub cost: u64,
     pub chosen: u64,
     pub bits: u32,
 }
 
-// What a search has kept, but for the minima: the best label's metric, nodes counted, that label (document 01's m, the MAP hypothesis of
-// the leaves walked), and the mark.
+// What a search has kept, but for the minima: the best label's metric with its two parts, nodes counted, that label (document 01's m, the MAP
+// hypothesis of the leaves walked), and the mark.
 pub struct Kept {
     pub best: u64,
+    pub distance: u64,
+    pub cost: u64,
     pub count: u32,
     pub label: u32,
     pub stopped: bool,

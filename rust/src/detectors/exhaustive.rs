@@ -23,7 +23,11 @@ pub fn answer(block: &Block, vector: &Vector) -> (usize, Vec<i64>) {
 
 /// |y - R s| squared, and what the priors add.
 pub fn metric(block: &Block, vector: &Vector, label: usize) -> i64 {
-    let label_bits = block.label_bits();
+    distance(block, vector, label) + prior_cost(block, vector, label)
+}
+
+/// |y - R s| squared.
+pub fn distance(block: &Block, vector: &Vector, label: usize) -> i64 {
     let points: Vec<Complex> = (0..block.streams)
         .map(|stream| point(block.bits, label >> ((block.streams - 1 - stream) * block.bits) & ((1 << block.bits) - 1)))
         .collect();
@@ -31,12 +35,17 @@ pub fn metric(block: &Block, vector: &Vector, label: usize) -> i64 {
         let sent = (0..block.streams).map(|column| vector.matrix[row][column] * points[column]);
         sent.fold(vector.received[row], |left, term| left - term)
     };
-    let distance: i64 = (0..block.streams).map(|row| residual(row).magnitude_squared()).sum();
+    (0..block.streams).map(|row| residual(row).magnitude_squared()).sum()
+}
+
+/// What the priors add.
+pub fn prior_cost(block: &Block, vector: &Vector, label: usize) -> i64 {
+    let label_bits = block.label_bits();
     let cost = |bit: usize| {
         let sign = if label >> (label_bits - 1 - bit) & 1 == 1 { 1 } else { -1 };
         (sign * vector.priors[bit]).max(0)
     };
-    distance + (0..label_bits).map(cost).sum::<i64>()
+    (0..label_bits).map(cost).sum()
 }
 
 /// A symbol's point by the Gray rule: each axis' bits, as a reflected number, count the amplitudes from the least up by twos.

@@ -1,5 +1,5 @@
-//! The plain detector: document 01 word for word, and 02's 256 points and weak value, for checking others by. What the walk asks of the
-//! leaves walked so far is worked out from their list at every test, and nothing is kept.
+//! The plain detector: document 01 word for word, and 02's 256 points, weak value and distance, for checking others by. What the walk
+//! asks of the leaves walked so far is worked out from their list at every test, and nothing is kept.
 //!
 //! Streams, rows and bits count from 0 here: stream 0 is the paper's stream 1, and bit 0 the label's first and highest.
 
@@ -20,28 +20,40 @@ pub fn detect(record: &[u8], reply: &mut [u8]) -> i64 {
     bytes.len() as i64
 }
 
-/// The answers in record order: vector k may walk N x D, less the nodes walked before it, less (N - k) x M.
+/// What was found of a vector: the answer, and the leaves walked, in the walk's order.
+pub struct Found {
+    pub answer: Answer,
+    pub leaves: Vec<Leaf>,
+}
+
+/// The answers in record order.
 pub fn answers(block: &Block) -> Vec<Answer> {
+    search(block).into_iter().map(|found| found.answer).collect()
+}
+
+/// Searches the vectors in record order: vector k may walk N x D, less the nodes walked before it, less (N - k) x M.
+pub fn search(block: &Block) -> Vec<Found> {
     let count = block.vectors.len() as i64;
     let mut walked = 0;
     let mut all = Vec::new();
     for (vector, k) in block.vectors.iter().zip(1..) {
         let allowance = count * block.share - walked - (count - k) * block.streams as i64;
-        let answer = answer(block, vector, allowance);
-        walked += answer.nodes;
-        all.push(answer);
+        let found = search_one(block, vector, allowance);
+        walked += found.answer.nodes;
+        all.push(found);
     }
     all
 }
 
-fn answer(block: &Block, vector: &Vector, allowance: i64) -> Answer {
+fn search_one(block: &Block, vector: &Vector, allowance: i64) -> Found {
     let mut walk = Walk { block, vector, allowance, nodes: 0, stopped: false, leaves: Vec::new() };
     walk.below(&[], 0);
     let best = best(&walk.leaves).expect("an allowance of at least M reaches a leaf");
     let empty = if walk.stopped { block.weak } else { block.clip };
     let value = |bit: usize| soft_value(&walk.leaves, block.mask(bit), vector.priors[bit], block.clip, empty);
     let values = (0..block.label_bits()).map(value).collect();
-    Answer { stopped: walk.stopped, nodes: walk.nodes, label: best.label, values }
+    let answer = Answer { stopped: walk.stopped, nodes: walk.nodes, label: best.label, values };
+    Found { answer, leaves: walk.leaves }
 }
 
 // Streams and labels.
@@ -91,11 +103,17 @@ pub fn point(bits: usize, symbol: usize) -> Complex {
 /// Row i's increment, where the streams from i on have these symbols, stream i's first.
 pub fn increment(block: &Block, vector: &Vector, row: usize, symbols: &[usize]) -> i64 {
     let points = symbols.iter().map(|&symbol| point(block.bits, symbol));
-    distance(vector, row, points) + prior_cost(block, vector, row, symbols[0])
+    row_distance(vector, row, points) + prior_cost(block, vector, row, symbols[0])
+}
+
+/// A label's squared distance, which leaves its prior cost out: document 02's Point 5.
+pub fn distance(block: &Block, vector: &Vector, label: usize) -> i64 {
+    let points: Vec<Complex> = block.symbols(label).iter().map(|&symbol| point(block.bits, symbol)).collect();
+    (0..block.streams).map(|row| row_distance(vector, row, points[row..].iter().copied())).sum()
 }
 
 /// |y_i minus the sum over j from i to M of R_ij s_j| squared, where the streams from i on have these points, stream i's first.
-pub fn distance(vector: &Vector, row: usize, points: impl Iterator<Item = Complex>) -> i64 {
+pub fn row_distance(vector: &Vector, row: usize, points: impl Iterator<Item = Complex>) -> i64 {
     let terms = vector.matrix[row][row..].iter().zip(points).map(|(&entry, point)| entry * point);
     let sum = terms.fold(Complex::ZERO, |sum, term| sum + term);
     (vector.received[row] - sum).magnitude_squared()

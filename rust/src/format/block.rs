@@ -149,6 +149,11 @@ impl Block {
     pub fn label(&self, symbols: &[usize]) -> usize {
         symbols.iter().fold(0, |label, symbol| (label << self.bits) + symbol)
     }
+
+    /// A label's symbols, the lowest stream first.
+    pub fn symbols(&self, label: usize) -> Vec<usize> {
+        (0..self.streams).rev().map(|behind| (label >> (behind * self.bits)) % (1 << self.bits)).collect()
+    }
 }
 
 /// The real and the imaginary part of each.

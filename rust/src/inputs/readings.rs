@@ -1,5 +1,5 @@
-//! Document 01's bench readings and its listing, and readings of the same vectors with document 02's W: the records, and what they are
-//! answered with.
+//! Document 01's bench readings and its listing, and readings of the same vectors with document 02's W and distances: the records, what
+//! they are answered with, and what is printed of them.
 
 use crate::format::block::Block;
 use crate::format::encoding::{Contents, Opening};
@@ -43,6 +43,9 @@ pub fn starred() -> [Reading; 10] {
         reading(two_streams(0, 5), [answer(false, 2, 2, [0, 0])]),
     ]
 }
+
+/// The squared distances of their labels.
+pub const STARRED_DISTANCES: [i64; 10] = [1, 1, 1, 1, 9, 9, 1, 1, 1, 1];
 
 fn reading<const VECTORS: usize>(contents: Contents, answers: [Answer; VECTORS]) -> Reading {
     Reading { contents, answers: answers.to_vec() }
@@ -97,6 +100,28 @@ pub const WEAK_RECORD: [u8; 20] = [
 /// Its reply, byte by byte.
 pub const WEAK_REPLY: [u8; 12] = [0x43, 0x42, 0x53, 0x31, 0x02, 0x01, 0x01, 0x01, 0x04, 0x02, 0x0F, 0x0E];
 
+/// Records of one vector, and the vector's line in the listing, worked out by hand. The distance is that of the line's label: without
+/// the priors, and whatever the labels have that were not walked.
+pub fn lines() -> [(Contents, &'static str); 9] {
+    let crossed = older(vec![2, 1, 1, 9, 2, 1, 3, 0, 1, -4, 0, 1, 0, 0, 0]);
+    let farthest = older(vec![1, 2, 1, 9, 1, 1, 131_071, 131_071, 0, 0]);
+    [
+        (two_streams(10, 5), "1 complete 5 2 0 -4 4 1"),
+        (two_streams(10, 4), "1 stopped 4 2 0 -8 10 1"),
+        (weak_reading(), "1 stopped 4 2 0 -8 7 1"),
+        // 9 + 0 and 1 + 10: the nearer label is not the best.
+        (one_stream(2, 10, 5, 2), "1 complete 2 0 0 -5 9"),
+        (one_stream(2, 10, 5, 1), "1 stopped 1 0 0 5 9"),
+        // 1 + 8 and 9 + 0: a tie, and the label goes against its prior.
+        (one_stream(-2, -8, 5, 2), "1 complete 2 0 1 5 1"),
+        (one_stream(-2, -8, 5, 1), "1 stopped 1 0 1 5 1"),
+        // R rows (1, 3), (0, 1), y = (-4, 1): with the second bit 1, label 1 has (-4 + 1 - 3)^2. Label 0, which has 4, is not walked.
+        (crossed, "1 stopped 2 1 0 9 -9 36"),
+        // 2 x 131,070^2 is more than 32 bits hold.
+        (farthest, "1 complete 1 3 0 -9 -9 34358689800"),
+    ]
+}
+
 pub fn answer<const BITS: usize>(stopped: bool, nodes: i64, label: usize, values: [i64; BITS]) -> Answer {
     Answer { stopped, nodes, label, values: values.to_vec() }
 }
@@ -125,7 +150,7 @@ pub const LISTING_REPLY: [u8; 17] =
 /// What is printed of it.
 pub const LISTING: &str = "\
 streams 2 bits 1 vectors 2 clip 10 share 3
-1 stopped 4 2 0 -8 10
-2 stopped 2 2 0 -10 10
+1 stopped 4 2 0 -8 10 1
+2 stopped 2 2 0 -10 10 1
 total 6
 ";

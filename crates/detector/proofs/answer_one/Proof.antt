@@ -3,30 +3,18 @@ use Prim.Native.Nat.{ℕ, _+_}
 use mathlib.Core.Path.{ap}
 use native.Mathlib.Omega.{arith}
 use borrow.Author.Needs.{needs}
-use Rattle.detector.proofs.Held.{few-streams, few-vectors, few-soft, total-fits, spent-more}
+use Rattle.detector.proofs.Held.{few-soft, total-fits, allowance-asked, spent-more}
 use Rattle.detector.proofs.Held.{after-length, found-asked, soft-asked, found-count, found-wrote}
 use Rattle.detector.proofs.Steps.{wrote-length}
 use Rattle.detector.proofs.answer_one.Statement.{statement}
 use Rattle.detector.proofs.answer_one.Tie as tie
-
-allowance-requires : tie.Need-allowance-requires
-allowance-requires c κs =
-    let p = c .before .before .pre in
-    let s = p .search in
-    record {
-      inside = s .inside;
-      streams = few-streams (s .held) (s .headed);
-      vectors = few-vectors (s .held) (s .headed);
-      total = total-fits (s .held) (s .headed);
-      left = p .left;
-    }
 
 write-found-requires : tie.Need-write-found-requires
 write-found-requires c κs =
     let f = c .before .before .before in
     let a = f .before .before .before in
     let s = a .before .before .before in
-    found-asked (s .pre .search) (s .args .step .spent) (a .allowance .ensures) (f .search-one .ensures) (s .pre .buffer)
+    found-asked (s .pre .search) (s .args .step .spent) (a .allowance .ensures .0) (f .search-one .ensures) (s .pre .buffer)
 
 mul-write-soft : tie.Need-mul-write-soft
 mul-write-soft c =
@@ -39,7 +27,7 @@ write-soft-requires c κs =
     let f = w .before .before .before .before in
     let a = f .before .before .before in
     let s = a .before .before .before in
-    soft-asked (s .pre .search) (s .args .step .spent) (a .allowance .ensures) (f .search-one .ensures) _ (s .pre .buffer)
+    soft-asked (s .pre .search) (s .args .step .spent) (a .allowance .ensures .0) (f .search-one .ensures) _ (s .pre .buffer)
     (wrote-length (w .write-found .ensures .1)) (w .write-found .ensures .0)
 
 add-spent : tie.Need-add-spent
@@ -51,7 +39,7 @@ add-spent c =
     let spent = s .args .step .spent in
     omega (
       arith,
-      found-count p spent (a .allowance .ensures) (f .search-one .ensures),
+      found-count p spent (a .allowance .ensures .0) (f .search-one .ensures),
       spent-more p spent (s .pre .left),
       total-fits (p .held) (p .headed),
     )
@@ -65,7 +53,7 @@ returns c =
     let s = a .before .before .before in
     let p = s .pre .search in
     let spent = s .args .step .spent in
-    let e = a .allowance .ensures in
+    let e = a .allowance .ensures .0 in
     let r = f .search-one .ensures in (
       found-wrote p spent e r (w .write-found .ensures .1) (u .write-soft .ensures),
       ap (λ (n : ℕ). spent + n) (found-count p spent e r),
@@ -76,8 +64,8 @@ pub answer-one-spec : {M : Type 1} → statement M
 answer-one-spec =
     tie.close
     (tie.spec
-    allowance-requires
-    (λ c κs. c .before .before .before .before .before .pre .search)
+    (λ c κs. let s = c .before .before in allowance-asked (s .pre .search) (s .args .step .spent) (s .pre .left))
+    (λ c κs. let a = c .before .before in (a .before .before .before .pre .search, a .allowance .ensures .1))
     write-found-requires
     mul-write-soft
     write-soft-requires

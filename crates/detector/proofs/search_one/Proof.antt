@@ -14,7 +14,7 @@ fits : (c : tie.After-header-size) → let v = c .before in
     c .header-size .result + v .before .before .args .k * v .vector-size .result + v .vector-size .result ≤ mostNumbers
 fits c =
     let v = c .before in
-    let p = v .before .before .pre in
+    let p = v .before .before .pre .0 in
     rw (c .header-size .ensures, v .vector-size .ensures)
     (vector-end _ _ (p .held) _ _ (p .headed .streams-is) (p .headed .width-is) _ (inside p))
 
@@ -22,16 +22,16 @@ search-vector-requires : tie.Need-search-vector-requires
 search-vector-requires c κs =
     let z = c .before .before .before in
     let v = z .before in
-    let p = v .before .before .pre in
+    let p = v .before .before .pre .0 in
     let h = p .headed in
-    (rw (z .header-size .ensures, v .vector-size .ensures) (part-asked _ _ (p .held) _ _ (h .streams-is) (h .width-is) _ (inside p) _ (h .clip-is)), weak-most (p .held) h, p .array, p .work, p .pointed)
+    (rw (z .header-size .ensures, v .vector-size .ensures) (part-asked _ _ (p .held) _ _ (h .streams-is) (h .width-is) _ (inside p) _ (h .clip-is)), weak-most (p .held) h, p .array, p .work, p .pointed, v .before .before .pre .1)
 
 returns : tie.Need-returns
 unfolding blockOf
 returns c =
     let z = c .before .before .before .before .before .before in
     let v = z .before in
-    let p = v .before .before .pre in
+    let p = v .before .before .pre .0 in
     let h = p .headed in
     part-answered _ _ (p .held) _ _ (h .streams-is) (h .width-is) _ (inside p) _ (h .clip-is) (h .weak-is) refl
     (rw (z .header-size .ensures, v .vector-size .ensures) at (c .before .before .search-vector .ensures))
@@ -40,7 +40,7 @@ pub search-one-spec : {M : Type 1} → statement M
 search-one-spec =
     tie.close
     (tie.spec
-    (λ c κs. let p = c .before .pre in (few-streams (p .held) (p .headed), few-bits (p .held) (p .headed)))
+    (λ c κs. let p = c .before .pre .0 in (few-streams (p .held) (p .headed), few-bits (p .held) (p .headed)))
     (λ c κs. search needs)
     (λ c. omega (arith, fits c))
     (λ c. omega (arith, fits c))
@@ -48,7 +48,7 @@ search-one-spec =
     (λ c. omega (arith, fits c))
     (λ c. search needs)
     (λ c. search needs)
-    (λ c. omega (arith, fits c, c .before .before .before .pre .held .room))
+    (λ c. omega (arith, fits c, c .before .before .before .pre .0 .held .room))
     search-vector-requires
     (λ c. search needs)
     returns)

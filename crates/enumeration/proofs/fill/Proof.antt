@@ -38,7 +38,7 @@ fill-least-requires c κs =
     let s = f .before .before .before .before .before .before .before in
     let q = s .args .q in
     let w : q - q / 2 ≤ axisWidth = omega (arith, s .pre .0) in
-    let same = ap length (f .before .before .before .before .fill-children .ensures) ∙ pass-length _ _ _ _ _ in
+    let same = ap length (f .before .before .before .before .fill-children .ensures .0) ∙ pass-length _ _ _ _ _ in
     rw (one-shifted q (omega (arith, s .pre .0)), one-shifted (q - q / 2) (omega (arith, s .pre .0)))
     (omega (arith, base-small f), s .pre .3, pow-mono w, omega (arith, same, s .pre .4))
 
@@ -50,7 +50,7 @@ fill-columns-requires c κs =
     let q = s .args .q in
     let w : q - q / 2 ≤ axisWidth = omega (arith, s .pre .0) in
     let same =
-    ap length (l .fill-least .ensures) ∙ from-length _ _ _ _ ∙ ap length (f .before .before .before .before .fill-children .ensures)
+    ap length (l .fill-least .ensures) ∙ from-length _ _ _ _ ∙ ap length (f .before .before .before .before .fill-children .ensures .0)
     ∙ pass-length _ _ _ _ _ in
     rw (one-shifted q (omega (arith, s .pre .0)), one-shifted (q - q / 2) (omega (arith, s .pre .0)))
     (pow-mono w, omega (arith, same, s .pre .4))
@@ -65,7 +65,7 @@ returns c =
     let h = s .pre .0 in
     keys-in q _ _ _ (s .args .partial) (s .args .axes .now) (s .args .keys .now) _ _ _ (f .least-first .result)
     (one-shifted q (omega arith)) (one-shifted (q / 2) (omega arith)) (one-shifted (q - q / 2) (omega arith))
-    (f .least-first .ensures .0) (f .before .before .before .before .fill-children .ensures) (l .fill-least .ensures) (k .fill-least-columns .ensures)
+    (f .least-first .ensures .0) (f .before .before .before .before .fill-children .ensures .0) (l .fill-least .ensures) (k .fill-least-columns .ensures)
 
 pub fill-spec : {M : Type 1} → statement M
 fill-spec =

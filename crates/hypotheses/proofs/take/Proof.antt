@@ -144,6 +144,10 @@ returns c =
           (limitsOf (a .minima .now)) (later (before w)),
       limited s (a .kept .label) (a .kept .best) (mid w) _ (placed (before w)) (own-then w) r,
       r .size ∙ mid-whole w,
+      record {
+        distance-is = ap (λ (b : Bool). cond b (a .leaf .distance) (a .kept .distance)) (sym (later (before w)));
+        cost-is = ap (λ (b : Bool). cond b (a .leaf .cost) (a .kept .cost)) (sym (later (before w)));
+      },
     )
 
 -- It does: it is the best label, and all limits are renewed
@@ -167,6 +171,10 @@ returns-2 c =
       limited s (a .leaf .bits) (a .leaf .partial) _ _ (s .pre .3) (own-new (few s) (s .pre .2) (m .note .ensures .0) (v s) (bits s))
           (r .renew-limits .ensures .0),
       r .renew-limits .ensures .0 .size ∙ m .note .ensures .0 .size ∙ s .pre .2,
+      record {
+        distance-is = ap (λ (b : Bool). cond b (a .leaf .distance) (a .kept .distance)) (sym first);
+        cost-is = ap (λ (b : Bool). cond b (a .leaf .cost) (a .kept .cost)) (sym first);
+      },
     )
 
 pub take-spec : {M : Type 1} → statement M

@@ -6,7 +6,7 @@ use borrow.Author.Needs.{needs}
 use Rattle.block.specs.Reading.{countAt}
 use Rattle.block.proofs.Parts.{weak-few}
 use Rattle.listing.proofs.Lines.{block-parts}
-use Rattle.listing.proofs.Pieces.{wrote-same, wrote-then}
+use Rattle.lines.proofs.Pieces.{wrote-then, wrote-same}
 use Rattle.listing.proofs.write_block.Statement.{statement}
 use Rattle.listing.proofs.write_block.Tie as tie
 
@@ -20,7 +20,7 @@ returns c =
     let n = clip .before in
     let q = n .before in
     let m = q .before in
-    let s = m .before .before .before in (
+    let s = m .before .before in (
       omega (arith, head .write-head .ensures .0, vectors .write-vectors .ensures .room, last .write-last .ensures .0),
       wrote-same
           (block-parts (s .args .layout) (s .args .numbers .now) (m .count-at .ensures) (q .count-at2 .ensures) (n .count-at3 .ensures)
@@ -37,7 +37,7 @@ write-block-spec =
     (λ c κs. search needs)
     (λ c κs. search needs)
     (λ c κs. search needs)
-    (λ c κs. let s = c .before .before .before .before .before .before .before in omega (arith, c .share-place .ensures, weak-few (s .args .layout), s .pre .held .room))
+    (λ c κs. let s = c .before .before .before .before .before .before in omega (arith, c .share-place .ensures, weak-few (s .args .layout), s .pre .held .room))
     (λ c κs. search needs)
     (λ c κs. search needs)
     (λ c. search needs)

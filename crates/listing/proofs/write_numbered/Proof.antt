@@ -1,53 +1,79 @@
--- The part of the lent list that is handed on is vector k's priors.
-use Prim.Native.Nat.{_+_, _*_, _≤_, _<_}
-use mathlib.Core.Path.{_≡_}
+-- The parts that are handed on are vector k's soft values and priors.
+use Prim.Native.Nat.{ℕ, _*_, _≤_, _<_}
+use mathlib.Core.Path.{refl}
 use native.Mathlib.Omega.{arith}
 use borrow.Author.Needs.{needs}
-use Rattle.block.specs.Reading.{headerSize, mostNumbers}
-use Rattle.listing.proofs.Lines.{few}
-use Rattle.listing.proofs.Numbered.{end-small, bits-less, numbered-asked, numbered}
+use Rattle.block.specs.Reading.{mostNumbers}
+use Rattle.listing.specs.Steps.{vectorEnd}
+use Rattle.detector.proofs.Held.{few-streams, few-bits, few-vectors, few-soft, inside, allowance-asked, after-length}
+use Rattle.listing.proofs.Numbered.{end-small, bits-less, line-asked, sum-small, numbered}
 use Rattle.listing.proofs.write_numbered.Statement.{statement}
 use Rattle.listing.proofs.write_numbered.Tie as tie
 
-small : (c : tie.Start) → c .args .k < 64
-small c = omega (arith, c .pre .inside, few (c .pre .held))
+-- From what was found back to the start
+abbrev start : tie.After-search-one → tie.Start
+start c = c .before .before .before .before .before .before
 
-fits : (c : tie.Start) → headerSize (c .args .sizes .layout) + (c .args .k + 1) * c .args .sizes .vector ≤ mostNumbers
-fits c = end-small (c .pre .held) (c .pre .sized) (c .args .k) (c .pre .inside)
+-- Where the vector ends
+module _ (c : tie.After-vector-end) where
+  abbrev found : tie.After-search-one
+  found = c .before .before .before
 
-less : (c : tie.Start) → c .args .sizes .bits ≤ headerSize (c .args .sizes .layout) + (c .args .k + 1) * c .args .sizes .vector
-less c = bits-less (c .pre .held) (c .pre .sized) (c .args .k) (c .pre .inside)
+  abbrev end : ℕ
+  end = c .vector-end .result
 
--- Where the vector ends, by the size that was worked out
-end-is : (c : tie.After-header-size) → let s = c .before .before .before in
-    c .header-size .result + (s .args .k + 1) * s .args .sizes .vector ≡ headerSize (s .args .sizes .layout) + (s .args .k + 1) * s .args .sizes .vector
-end-is c = rw (c .header-size .ensures)
+  few : start found .args .k < 64
+  few = let s = start found .pre .search in omega (arith, s .inside, few-vectors (s .held) (s .headed))
 
-write-vector-requires : tie.Need-write-vector-requires
-write-vector-requires c κs = rw (c .before .before .before .before .header-size .ensures) (numbered-asked (c .before .before .before .before .before .before .before .pre))
+  fits : end ≤ mostNumbers
+  fits =
+      let s = start found .pre .search in
+      omega (arith, c .vector-end .ensures, end-small (s .held) (s .headed .streams-is) (s .headed .width-is) (start found .args .k) (inside s))
+
+  bits-in : let h = start found .args .h in h .streams * h .width ≤ vectorEnd (start found .args .h) (start found .args .k)
+  bits-in =
+      let s = start found .pre .search in
+      bits-less (s .held) (s .headed .streams-is) (s .headed .width-is) (start found .args .k) (inside s)
+
+write-line-requires : tie.Need-write-line-requires
+write-line-requires c κs =
+    let z = c .before .before .before .before in
+    let f = found z in
+    line-asked (start f .pre) (f .before .before .before .allowance .ensures .0) (f .search-one .result) (f .search-one .ensures) (end z) (z .vector-end .ensures)
+
+-- From the line back to the vector's end
+abbrev ended : tie.After-write-line → tie.After-vector-end
+ended c = c .before .before .before .before .before
 
 returns : tie.Need-returns
 returns c =
-    let w = c .before .before in
-    let s = w .before .before .before .before .before .before .before .before in
-    numbered (s .pre) {text = s .args .text .now} {after = w .write-vector .last .0} {next = w .write-vector .result}
-    (rw (w .before .before .before .before .before .header-size .ensures) at (w .write-vector .ensures))
+    let w = c .before .before .before .before in
+    let z = ended w in
+    let f = found z in
+    let p = start f .pre in
+    let granted = f .before .before .before .allowance .ensures .0 in
+    (numbered p granted (f .search-one .result) (f .search-one .ensures) (end z) (z .vector-end .ensures) (w .write-line .ensures .0) (w .write-line .ensures .1) refl, after-length (p .search) (start f .args .step .total) granted (f .search-one .ensures))
 
 pub write-numbered-spec : {M : Type 1} → statement M
 write-numbered-spec =
     tie.close
     (tie.spec
-    (λ c κs. search needs)
-    (λ c. omega (arith, small (c .before .before .before)))
-    (λ c. omega (arith, fits (c .before .before .before .before)))
-    (λ c. omega (arith, fits (c .before .before .before .before), end-is (c .before)))
-    (λ c. omega (arith, less (c .before .before .before .before .before), end-is (c .before .before)))
-    (λ c. omega (arith, fits (c .before .before .before .before .before .before), end-is (c .before .before .before)))
+    (λ c κs. let s = c .before .before in allowance-asked (s .pre .search) (s .args .step .total) (s .pre .left))
+    (λ c κs. let a = c .before .before in (a .before .before .before .pre .search, a .allowance .ensures .1))
+    (λ c κs. let s = start (c .before .before) .pre .search in (few-streams (s .held) (s .headed), few-bits (s .held) (s .headed), omega (arith, s .inside, few-vectors (s .held) (s .headed))))
+    (λ c. let s = start (found (c .before)) .pre .search in omega (arith, few-soft (s .held) (s .headed)))
+    (λ c. let z = c .before in omega (arith, z .vector-end .ensures, bits-in z))
+    (λ c. omega (arith, few (c .before .before)))
+    (λ c. omega (arith, few (c .before .before)))
+    (λ c. omega (arith, fits (c .before .before .before)))
     (λ c. search needs)
     (λ c. search needs)
-    (λ c. let s = c .before .before .before .before .before .before in omega (arith, fits s, s .pre .held .room, end-is (c .before .before .before)))
-    (λ c. omega (arith, small (c .before .before .before .before .before .before .before)))
-    (λ c. omega (arith, small (c .before .before .before .before .before .before .before)))
-    write-vector-requires
+    (λ c. let z = c .before .before .before in omega (arith, fits z, start (found z) .pre .search .held .room))
+    write-line-requires
+    (λ c.
+    let z = ended (c .before .before .before .before) in
+    let f = found z in
+    omega (arith, sum-small (start f .pre) (f .before .before .before .allowance .ensures .0) (f .search-one .result) (f .search-one .ensures) (end z) (z .vector-end .ensures)))
+    (λ c. search needs)
     (λ c. search needs)
     returns)

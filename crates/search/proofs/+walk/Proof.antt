@@ -13,6 +13,7 @@ use borrow.Rule.Slice.PartMut.{putMid, same-len-mid}
 use lib.ListN.{length, take, drop}
 use Rattle.metric.proofs.Shifts.{one-shifted}
 use Rattle.search_spec.specs.Program.{Kept, takenIn, limitsOf, keptOf, noted, below}
+use Rattle.search_spec.specs.Parts.{NodeParts, BestParts}
 use Rattle.search_spec.proofs.Minima.{limits-part, limits-length}
 use Rattle.enumeration.specs.Rows.{keyCount}
 use Rattle.hypotheses.specs.Limits.{vectorFor, minimaSize}
@@ -25,6 +26,7 @@ use Rattle.search.specs.declared.Turn.the-variants.{Ended, Cut, Stop, Le
 use Rattle.expansion.proofs.Nodes.{room-for, partial-under, leaf-placed, kids-few}
 use Rattle.search.proofs.Search.{Searching, leaf-noted, places-few, start, limits-asked, next-asked}
 use Rattle.search.proofs.Search.{done, ended, halts, cut, past, child-asked, child-in, stops, onward, onward-here}
+use Rattle.search.proofs.Best.{best-same, best-after}
 use Rattle.search.proofs.walk.Reads as walk
 use Rattle.search.proofs.walk.Kinds as walk-kinds
 use Rattle.search.proofs.+walk.Lts-walk as walk-lts
@@ -50,10 +52,10 @@ abbrev Inv : walk-lts.InvT-loop
 Inv task points numbers tables minima₀ keys₀ places n k₀ parent₀ tried₀ minima keys k parent tried =
     (n ≡ 2 ^ task .width) × (places ≡ keyCount (task .width)) × (length minima ≡ minimaSize) × (length keys ≡ length keys₀)
     × (parent .level ≡ parent₀ .level)
-    × Searching (task .streams) (task .width) (task .clip) numbers (task .allowance) parent
+    × Searching (task .streams) (task .width) (task .clip) numbers tables (task .allowance) parent
     (below (vectorFor task numbers) (task .allowance) (parent₀ .level) (parent₀ .bits) (parent₀ .partial)
     (keptOf (k₀ .count) false (takenIn (k₀ .label) (k₀ .best) minima₀))) tried keys
-    (keptOf (k .count) (k .stopped) (takenIn (k .label) (k .best) minima)) (limitsOf minima) × (tried ≤ n)
+    (keptOf (k .count) (k .stopped) (takenIn (k .label) (k .best) minima)) (limitsOf minima) × (tried ≤ n) × BestParts (vectorFor task numbers) k
 
 abbrev μ-loop : walk-lts.MeasureT-loop
 μ-loop task points numbers tables minima₀ keys₀ places n k₀ parent₀ tried₀ minima keys k parent tried = n - tried
@@ -87,7 +89,7 @@ module _ (t : ℕ) (c : walk-lts.After-advance (calls t) (walk-at t) walk.Post I
   -- The state before it
   searching : let a = begin .args in
       let l = loop .loop in
-      Searching (a .task .streams) (a .task .width) (a .task .clip) (a .numbers .now) (a .task .allowance) (l .parent)
+      Searching (a .task .streams) (a .task .width) (a .task .clip) (a .numbers .now) (a .tables .now) (a .task .allowance) (l .parent)
       (below (vectorFor (a .task) (a .numbers .now)) (a .task .allowance) (a .node .level) (a .node .bits) (a .node .partial)
       (keptOf (a .kept .count) false (takenIn (a .kept .label) (a .kept .best) (a .minima .now)))) (l .tried) (l .keys)
       (keptOf (l .k .count) (l .k .stopped) (takenIn (l .k .label) (l .k .best) (l .minima))) (limitsOf (l .minima))
@@ -98,7 +100,7 @@ module _ (t : ℕ) (c : walk-lts.After-advance (calls t) (walk-at t) walk.Post I
 
   -- The child that it takes
   abbrev next : Node
-  next = nextOf (begin .args .task .streams) (begin .args .task .width) (loop .loop .parent) (loop .loop .k .label) (limitsOf (loop .loop .minima)) (loop .loop .keys)
+  next = nextOf (begin .args .task .streams) (begin .args .task .width) (loop .loop .parent) (loop .loop .k .label) (begin .args .tables .now) (limitsOf (loop .loop .minima)) (loop .loop .keys)
 
   -- The keys after it
   abbrev after : List ℕ
@@ -109,11 +111,11 @@ module _ (t : ℕ) (c : walk-lts.After-advance (calls t) (walk-at t) walk.Post I
 
   -- What it came to
   abbrev CameTo : Turn → Type 0
-  CameTo r = Advanced (begin .args .task) (begin .args .numbers .now) (loop .loop .parent) (loop .loop .k) (limitsOf (loop .loop .minima)) (loop .loop .keys) after r
+  CameTo r = Advanced (begin .args .task) (begin .args .numbers .now) (begin .args .tables .now) (loop .loop .parent) (loop .loop .k) (limitsOf (loop .loop .minima)) (loop .loop .keys) after r
 
   came-to : CameTo (c .advance .result)
   came-to =
-      subst (λ (limits : List ℕ). Advanced (begin .args .task) (begin .args .numbers .now) (loop .loop .parent) (loop .loop .k) limits (loop .loop .keys) after (c .advance .result))
+      subst (λ (limits : List ℕ). Advanced (begin .args .task) (begin .args .numbers .now) (begin .args .tables .now) (loop .loop .parent) (loop .loop .k) limits (loop .loop .keys) after (c .advance .result))
       (limits-part (loop .loop .minima)) (c .advance .ensures)
 
   answers : (r : Turn) → c .advance .result ≡ r → CameTo r
@@ -189,6 +191,19 @@ module _ (t : ℕ) (c : walk-lts.After-take (calls t) (walk-at t) walk.Post Inv 
       (noted (vectorFor (a .task) (a .numbers .now)) (n .bits) (n .partial) (takenIn (l .k .label) (l .k .best) (l .minima)))) (reached .1)
       ∙ leaf-noted (child-in (searching t reaching) (more t reaching)) _ _ (reached .2) _ _ (searching t reaching .running)
 
+  -- Both parts of the best label's metric are kept
+  leaf-best : let a = begin t reaching .args in BestParts (vectorFor (a .task) (a .numbers .now)) (c .take .result)
+  leaf-best =
+      let a = begin t reaching .args in
+      let l = loop t reaching .loop in
+      let h = c .before .before .counted2 .ensures in
+      let k = c .before .before .counted2 .result in
+      let v = vectorFor (a .task) (a .numbers .now) in
+      let leaf = c .before .before .before .before .leaf .given .0 .0 in
+      best-after v leaf (subst (NodeParts v) (sym (reached .1)) (child-in (searching t reaching) (more t reaching) .parts))
+      (ap (λ (n : Node). n .level) (reached .1) ∙ reached .2) k (c .take .result) (c .take .ensures .4) (takenIn (k .label) (k .best) (l .minima))
+      (c .take .ensures .0) refl refl refl refl (best-same v (h .3) (h .2) (h .4) (h .5) (l .inv .7))
+
 -- The child is to be searched: what the turn says of it
 module _ (t : ℕ) (c : walk-lts.After-child (calls t) (walk-at t) walk.Post Inv μ-loop) where
   abbrev turned : walk-lts.After-advance (calls t) (walk-at t) walk.Post Inv μ-loop
@@ -250,8 +265,9 @@ pub +walk-spec : {M : Type 1} → statement M
       s .pre .1 .3,
       refl,
       refl,
-      start (w .node) (s .pre .1 .5) _ _ (w .lowest) (w .limited) (w .opposed) _ _ (w .room) (s .pre .1 .6) _ _ (s .pre .1 .1),
+      start (w .node) (s .pre .1 .5) _ _ (w .lowest) (w .limited) (w .opposed) _ _ (w .room) (s .pre .1 .6) _ _ (s .pre .1 .1) (s .pre .1 .2),
       omega arith,
+      s .pre .1 .7,
     ))
     (λ c. omega (arith, c .before .loop .inv .2))
     (λ c. omega (arith, c .before .before .loop .inv .2))
@@ -264,7 +280,7 @@ pub +walk-spec : {M : Type 1} → statement M
       tabled = s .pre .1 .2;
       pointed = s .pre .1 .4;
       limited = limits-asked (h .node) _ _ (h .limited);
-      next = next-asked h;
+      next = next-asked h (omega (arith, l .loop .inv .0, l .loop .inv .6, c .before .before .before .loop-test .taken));
       lowest = h .lowest;
       room = h .room;
     }))
@@ -272,13 +288,13 @@ pub +walk-spec : {M : Type 1} → statement M
     (λ c. let a = c .before .before .before .before in loop t a .loop .inv .2 ∙ sym (begin t a .pre .1 .3))
     (λ c. let a = c .before .before .before .before in after-length t a ∙ loop t a .loop .inv .3)
     (λ c. let a = c .before .before .before .before in
-    (ended (searching t a) (more t a) (answers t a Ended (c .enum-told .given .1)), searching t a .limited, loop t a .loop .inv .2))
+    (ended (searching t a) (more t a) (answers t a Ended (c .enum-told .given .1)), searching t a .limited, loop t a .loop .inv .2, loop t a .loop .inv .7))
     (λ c. c .match .keys2)
     (λ c κs. search needs)
     (λ c. let a = c .before .before .before .before .before in loop t a .loop .inv .2 ∙ sym (begin t a .pre .1 .3))
     (λ c. let a = c .before .before .before .before .before in after-length t a ∙ loop t a .loop .inv .3)
     (λ c. let a = c .before .before .before .before .before in let h = c .halted .ensures in let r = answers t a Stop (c .before .enum-told2 .given .1) in
-    (rw (h .0, h .1, h .2, h .3) (halts (searching t a) (more t a) (r .0) (r .1)), rw (h .2, h .3) (searching t a .limited), loop t a .loop .inv .2))
+    (rw (h .0, h .1, h .2, h .3) (halts (searching t a) (more t a) (r .0) (r .1)), rw (h .2, h .3) (searching t a .limited), loop t a .loop .inv .2, best-same _ (h .3) (h .2) (h .4) (h .5) (loop t a .loop .inv .7)))
     (λ c. c .match .keys3)
     (λ c κs. let a = c .before .before .before .before in countable t a (answers t a Left (c .enum-told3 .given .1) .0 .more))
     (λ c. c .match .keys4)
@@ -315,12 +331,13 @@ pub +walk-spec : {M : Type 1} → statement M
         omega (arith, ap (λ (n : Node). n .level) (r .1), r .2),
         subst (λ (n : Node). Filled (s .args .task .streams) (s .args .task .width) (s .args .numbers .now) n (lower t a)) (sym (r .1))
             (subst (λ (keys : List ℕ). Filled (s .args .task .streams) (s .args .task .width) (s .args .numbers .now) (next t a) keys) (sym (lower-is t a)) (r .3)),
+        best-same _ (k .3) (k .2) (k .4) (k .5) (l .inv .7),
       ),
     ))
     (λ c. let w = c .before .before .before .before .before in w .walk .ensures .2 ∙ sym (begin t (turned t (entry t w)) .pre .1 .3))
     (λ c. let w = c .before .before .before .before .before in let a = turned t (entry t w) in then-length t w ∙ after-length t a ∙ loop t a .loop .inv .3)
     (λ c. let w = c .before .before .before .before .before in let e = entry t w in let a = turned t e in let n = entered t e .0 in
-    (stops (searching t a) (more t a) (n .took) (n .passes) (n .more) (kept t w) (found t w) (c .if1 .taken), w .walk .ensures .1, w .walk .ensures .2))
+    (stops (searching t a) (more t a) (n .took) (n .passes) (n .more) (kept t w) (found t w) (c .if1 .taken), w .walk .ensures .1, w .walk .ensures .2, w .walk .ensures .3))
     (λ c. omega (arith, c .before .before .before .before .before .walk .ensures .2))
     (λ c. omega (arith, c .before .before .before .before .before .before .walk .ensures .2))
     (λ c. le-refl _)
@@ -339,6 +356,7 @@ pub +walk-spec : {M : Type 1} → statement M
       l .inv .4,
       rw (e .0, e .1, e .2, e .3) (past h (more t a) (r .0 .took) (r .0 .passes) (r .0 .more) (r .1) (r .2)),
       omega (arith, more t a, l .inv .0),
+      best-same _ (e .3) (e .2) (e .4) (e .5) (l .inv .7),
     ))
     (⊎-elim
     (λ x. let w : walk-lts.After-take (calls t) (walk-at t) walk.Post Inv μ-loop = record { before = record { before = record { before = record { before = record { before = record { before = c .before; match = x .0 }; leaf = x .1 }; known-told = x .2 }; counted2 = x .3 }; take-arg = x .4 }; take = x .5 } in let s = begin t a in let n = reached t w .0 in again t a (x .11) (x .12) (x .13) (x .14) (
@@ -350,6 +368,7 @@ pub +walk-spec : {M : Type 1} → statement M
       onward-here h (more t a) (n .took) (n .passes) (n .more) (leafKept t w) (leaf-found t w) (leaf-runs t w) (x .5 .ensures .2) _
           (subst (λ (limits : List ℕ). Renewal (s .args .task .streams) (s .args .task .width) (x .5 .result .label) limits (l .parent) (x .10 .result)) (limits-part (minimaThen t w)) (x .10 .ensures)),
       omega (arith, more t a, l .inv .0),
+      leaf-best t w,
     ))
     (⊎-elim
     (λ x. let w : walk-lts.After-walk (calls t) (walk-at t) walk.Post Inv μ-loop = record { before = record { before = record { before = record { before = record { before = record { before = record { before = c .before; match = x .0 }; child = x .1 }; known-told2 = x .2 }; counted3 = x .3 }; lower = x .4 }; walk-arg = x .5 }; walk = x .6 } in let s = begin t a in let n = entered t (entry t w) .0 in again t a (x .15) (x .16) (x .17) (x .18) (
@@ -359,13 +378,14 @@ pub +walk-spec : {M : Type 1} → statement M
       then-length t w ∙ after-length t a ∙ l .inv .3,
       x .14 .ensures .level-is ∙ l .inv .4,
       subst
-          (λ (keys : List ℕ). Searching (s .args .task .streams) (s .args .task .width) (s .args .task .clip) (s .args .numbers .now) (s .args .task .allowance) (x .14 .result)
+          (λ (keys : List ℕ). Searching (s .args .task .streams) (s .args .task .width) (s .args .task .clip) (s .args .numbers .now) (s .args .tables .now) (s .args .task .allowance) (x .14 .result)
           (below (vectorFor (s .args .task) (s .args .numbers .now)) (s .args .task .allowance) (s .args .node .level) (s .args .node .bits) (s .args .node .partial)
           (keptOf (s .args .kept .count) false (takenIn (s .args .kept .label) (s .args .kept .best) (s .args .minima .now)))) (l .tried + 1) keys
           (kept t w) (limitsOf (x .6 .last .1 .1 .1 .1 .1 .1 .0))) (sym (then-is t w))
           (onward h (more t a) (n .took) (n .passes) (n .more) (kept t w) (found t w) (x .11 .left) (x .6 .ensures .1) _ (ap length (sym (then-is t w)) ∙ then-length t w) _
           (subst (λ (limits : List ℕ). Renewal (s .args .task .streams) (s .args .task .width) (x .6 .result .label) limits (l .parent) (x .14 .result)) (limits-part (x .6 .last .1 .1 .1 .1 .1 .1 .0)) (x .14 .ensures))),
       omega (arith, more t a, l .inv .0),
+      x .6 .ensures .3,
     ))
     (λ x. let r = answers t a Cut (x .1 .given .1) in again t a (x .2) (x .3) (x .4) (x .5) (
       l .inv .0,
@@ -375,8 +395,9 @@ pub +walk-spec : {M : Type 1} → statement M
       l .inv .4,
       cut h (more t a) (r .0) (r .1),
       omega (arith, more t a, l .inv .0),
+      l .inv .7,
     ))))
     (c .match .came))
     (λ c. c .before .loop .inv .2 ∙ sym (c .before .before .before .before .before .before .pre .1 .3))
     (λ c. c .before .loop .inv .3)
-    (λ c. let l = c .before in (done (l .loop .inv .5) (omega (arith, l .loop .inv .0, c .loop-test .left)), l .loop .inv .5 .limited, l .loop .inv .2))
+    (λ c. let l = c .before in (done (l .loop .inv .5) (omega (arith, l .loop .inv .0, c .loop-test .left)), l .loop .inv .5 .limited, l .loop .inv .2, l .loop .inv .7))

@@ -26,11 +26,11 @@ abbrev start : tie.After-next-child → tie.Start
 start c = c .before .before .before .before .before .before .before .before
 
 abbrev taken : tie.After-next-child → List ℕ
-taken c = c .next-child .last .1 .1 .1 .1 .1 .0
+taken c = c .next-child .last .1 .1 .1 .1 .1 .1 .0
 
 -- The child is the definition's
 abbrev child : tie.After-next-child → Node
-child c = let a = start c .args in nextOf (a .task .streams) (a .task .width) (a .node) (a .kept .label) (a .limits .now) (a .keys .now)
+child c = let a = start c .args in nextOf (a .task .streams) (a .task .width) (a .node) (a .kept .label) (a .tables .now) (a .limits .now) (a .keys .now)
 
 -- The child's test is the definition's
 tested : (c : tie.After-passes2)
@@ -54,7 +54,7 @@ counts : (c : tie.Else3)
     → let n = c .before .before .before .before .before .before .before in
     let a = start n .args in
     (new : List ℕ) → Took (a .task .width) (a .keys .now) new (leastFirst (a .keys .now) (2 ^ a .task .width))
-    → Counts (a .task) (a .numbers .now) (a .node) (a .kept) (a .limits .now) (a .keys .now) new
+    → Counts (a .task) (a .numbers .now) (a .tables .now) (a .node) (a .kept) (a .limits .now) (a .keys .now) new
 counts c new took = record {
   took = took;
   passes = sym (tested (c .before .before .before .before)) ∙ not-false _ (c .before .before .before .if2 .left);
@@ -118,7 +118,7 @@ module _ (c : tie.After-expand) where
   after-is = ap (λ (x : ℕ). putMid x (length (taken n) - x) (taken n) (lower c)) (places p)
 
   -- The child is counted
-  counted : let a = start n .args in Counts (a .task) (a .numbers .now) (a .node) (a .kept) (a .limits .now) (a .keys .now) after
+  counted : let a = start n .args in Counts (a .task) (a .numbers .now) (a .tables .now) (a .node) (a .kept) (a .limits .now) (a .keys .now) after
   counted =
       let a = start n .args in
       counts (p .before .before .before) after

@@ -61,6 +61,7 @@ walk-requires c κs =
       s .pre .5,
       s .pre .1,
       filled-in (a .task .streams) (a .task .width) (a .numbers .now) (a .root) (parts f) p,
+      s .pre .6,
     )
 
 pub begin-spec : {M : Type 1} → statement M
@@ -76,4 +77,4 @@ begin-spec =
     walk-requires
     (λ c. search needs)
     (λ c. search needs)
-    (λ c. let w = c .before .before .before .before in (w .walk .ensures .0, w .walk .ensures .2)))
+    (λ c. let w = c .before .before .before .before in (w .walk .ensures .0, w .walk .ensures .2, w .walk .ensures .3)))

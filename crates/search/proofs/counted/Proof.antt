@@ -5,4 +5,4 @@ use Rattle.search.proofs.counted.Statement.{statement}
 use Rattle.search.proofs.counted.Tie as tie
 
 pub counted-spec : {M : Type 1} → statement M
-counted-spec = tie.close (tie.spec (λ c. omega (arith, c .before .pre)) (λ c. (refl, refl, refl, refl)))
+counted-spec = tie.close (tie.spec (λ c. omega (arith, c .before .pre)) (λ c. (refl, refl, refl, refl, refl, refl)))

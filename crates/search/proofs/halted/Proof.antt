@@ -4,4 +4,4 @@ use Rattle.search.proofs.halted.Statement.{statement}
 use Rattle.search.proofs.halted.Tie as tie
 
 pub halted-spec : {M : Type 1} → statement M
-halted-spec = tie.close (tie.spec (λ c. (refl, refl, refl, refl)))
+halted-spec = tie.close (tie.spec (λ c. (refl, refl, refl, refl, refl, refl)))

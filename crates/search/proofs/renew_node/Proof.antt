@@ -9,4 +9,4 @@ renew-node-spec =
     tie.close
     (tie.spec
     (λ c κs. search needs)
-    (λ c. record { level-is = refl; bits-is = refl; partial-is = refl; chosen-is = c .chosen .ensures }))
+    (λ c. record { level-is = refl; bits-is = refl; partial-is = refl; distance-is = refl; cost-is = refl; chosen-is = c .chosen .ensures }))

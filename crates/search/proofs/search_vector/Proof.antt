@@ -11,6 +11,7 @@ use Rattle.metric.proofs.Tables.{rows-tabled}
 use Rattle.hypotheses.specs.Limits.{vectorFor}
 use Rattle.search_spec.specs.Program.{keptOf, takenIn, fresh, below}
 use Rattle.search.proofs.Values.{keys-many, root-asked, end-low, end-answered}
+use Rattle.search.proofs.Best.{none-best}
 use Rattle.search.proofs.search_vector.Statement.{statement}
 use Rattle.search.proofs.search_vector.Tie as tie
 
@@ -24,7 +25,7 @@ begin-requires c κs =
     let tabled =
     subst (λ (l : List ℤ). Tabled m q (s .args .numbers .now) l) (sym (p .prepare .ensures))
     (rows-tabled m q (s .args .numbers .now) _ (v .bits) refl m (v .streams)) in
-    (root-asked (s .pre .0) _ (le-trans (keys-many (s .pre .0)) (s .pre .3)), s .pre .0 .stream, refl, tabled, refl, s .pre .4)
+    (root-asked (s .pre .0) _ (le-trans (keys-many (s .pre .0)) (s .pre .3)), s .pre .0 .stream, refl, tabled, refl, s .pre .4, none-best _ _ refl)
 
 -- What the walk has kept, from nothing
 walked : (c : tie.After-begin)
@@ -48,7 +49,7 @@ returns c =
     let w = e .before .before .before .before in
     let s = w .before .before .before .before .before .before .before in
     end-answered (s .pre .0) (s .args .task .allowance) (walked w) (s .args .weak) (e .empty-side .ensures) _ _ (s .pre .2)
-    (c .write-soft .ensures)
+    (c .write-soft .ensures) (s .pre .5) (w .begin .result) refl refl (w .begin .ensures .2)
 
 pub search-vector-spec : {M : Type 1} → statement M
 search-vector-spec =

@@ -9,6 +9,7 @@ use lib.Pow.{pow-mono, pow-pos}
 use Rattle.metric.specs.Parts.{axisWidth, span, realIn, rowMetric, measuredTo, filledFrom}
 use Rattle.metric.proofs.Filled.{from-length}
 use Rattle.metric.proofs.Grid.{rows-all, row-reached}
+use Rattle.metric.proofs.Parted.{pass-parted}
 use Rattle.metric.proofs.Pass.{pass-length}
 use Rattle.metric.proofs.Shifts.{one-shifted}
 use Rattle.metric.proofs.children.fill_first.Statement.{statement}
@@ -82,5 +83,6 @@ fill-first-spec =
     ∙ ap length (c .before .before .before .before .before .before .before .fill-rows .ensures) ∙ pass-length _ _ _ _ _)
     (λ c.
     let s = c .before .before .before .before .before .before .before .before .before .before in
-    first-is (s .args .q) (s .args .partial) (s .args .axes .now) (s .args .k) (count s) (s .args .keys .now) _ _ (count-is s)
-    (c .before .before .before .before .before .before .before .fill-rows .ensures) (c .before .before .fill-columns .ensures)))
+    let whole = first-is (s .args .q) (s .args .partial) (s .args .axes .now) (s .args .k) (count s) (s .args .keys .now) _ _ (count-is s)
+    (c .before .before .before .before .before .before .before .fill-rows .ensures) (c .before .before .fill-columns .ensures) in
+    (whole, pass-parted (s .args .q) (s .args .partial) (s .args .axes .now) (s .args .keys .now) (s .args .k) (s .pre .4) (s .pre .3) _ whole)))

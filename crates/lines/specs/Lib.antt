@@ -1,0 +1,3 @@
+pub mod Against
+pub mod Text
+pub mod Asked
