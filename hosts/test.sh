@@ -6,7 +6,7 @@ set -eu
 cd "$(dirname "$0")/.."
 made="example stopped priors signed-priors full full-stopped wide weaker"
 refused="refused refused-wide refused-weak"
-written="bench tie points distance far"
+written="bench tie points distance far ties"
 broken="empty other-opening cut trailing"
 samples=$(for name in $made $refused $written $broken; do echo samples/$name.rec; done)
 short=$(for name in $made $written; do echo samples/$name.rec; done | grep -v full)
@@ -24,14 +24,17 @@ fail() {
     exit 1
 }
 
-# expect STATUS WHAT COMMAND...: runs the command, its output to build/printed and build/complaints, and asks for this exit status.
+# Where what is printed is kept; another folder for the runs under valgrind, which go on beside the others.
+out=build
+
+# expect STATUS WHAT COMMAND...: runs the command, its output to $out/printed and $out/complaints, and asks for this exit status.
 expect() {
     wanted=$1
     what=$2
     shift 2
     status=0
-    "$@" >build/printed 2>build/complaints || status=$?
-    [ "$status" -eq "$wanted" ] || fail "$what: exit status $status where $wanted is due: $(cat build/complaints)"
+    "$@" >$out/printed 2>$out/complaints || status=$?
+    [ "$status" -eq "$wanted" ] || fail "$what: exit status $status where $wanted is due: $(cat $out/complaints)"
 }
 
 # same EXPECTED PRINTED WHAT: asks for equal files.
@@ -41,7 +44,7 @@ same() {
 
 # complains TEXT WHAT: asks that standard error has just this line.
 complains() {
-    [ "$(cat build/complaints)" = "$1" ] || fail "$2: standard error says '$(cat build/complaints)' and not '$1'"
+    [ "$(cat $out/complaints)" = "$1" ] || fail "$2: standard error says '$(cat $out/complaints)' and not '$1'"
 }
 
 # The next three run build/record, under a checker if one is named.
@@ -51,7 +54,7 @@ write_samples() {
     for name in $made $written; do
         expect 0 "the record of $name" "$@" build/record "samples/$name.numbers"
         complains "" "the record of $name"
-        same "samples/$name.rec" build/printed "the record of $name"
+        same "samples/$name.rec" $out/printed "the record of $name"
     done
 }
 
@@ -61,24 +64,24 @@ read_samples() {
     for name in $made $written; do
         expect 0 "the numbers of $name" "$@" build/record -n "samples/$name.rec"
         complains "" "the numbers of $name"
-        cp build/printed "build/$name.numbers"
-        expect 0 "the record of the numbers of $name" build/record "build/$name.numbers"
-        same "samples/$name.rec" build/printed "the record of the numbers of $name"
+        cp $out/printed "$out/$name.numbers"
+        expect 0 "the record of the numbers of $name" build/record "$out/$name.numbers"
+        same "samples/$name.rec" $out/printed "the record of the numbers of $name"
     done
     for name in $made; do
-        same "samples/$name.numbers" "build/$name.numbers" "the numbers of $name"
+        same "samples/$name.numbers" "$out/$name.numbers" "the numbers of $name"
     done
 }
 
 # refuse_lists CHECKER...: each text of hosts/expected/lists, written there as printf takes it, and behind a bar what is said of it. No file is
 # made.
 refuse_lists() {
-    rm -f build/none.rec
+    rm -f $out/none.rec
     while IFS='|' read -r text words; do
-        printf '%b' "$text" >build/list.numbers
-        expect 1 "the list '$text'" "$@" build/record -o build/none.rec build/list.numbers
-        complains "build/list.numbers: $words" "the list '$text'"
-        ! [ -e build/none.rec ] || fail "the list '$text': a record is made"
+        printf '%b' "$text" >$out/list.numbers
+        expect 1 "the list '$text'" "$@" build/record -o $out/none.rec $out/list.numbers
+        complains "$out/list.numbers: $words" "the list '$text'"
+        ! [ -e $out/none.rec ] || fail "the list '$text': a record is made"
     done <hosts/expected/lists
 }
 
@@ -142,7 +145,33 @@ makes() {
     [ "$called" = "$calls" ] || fail "make $*: rt is called with '$called' where '$calls' is due"
 }
 
+# What valgrind sees of the programs: no error, no leak, no race.
+checked_memory() {
+    out=build/memory
+    mkdir -p $out
+    checker="valgrind --quiet --error-exitcode=9 --leak-check=full"
+    expect 1 "valgrind" $checker build/detect $samples
+    complains "" "valgrind"
+    expect 0 "valgrind, two threads" $checker build/threads 1 $samples
+    complains "" "valgrind, two threads"
+    expect 0 "helgrind, two threads" valgrind --tool=helgrind --quiet --error-exitcode=9 build/threads 1 $samples
+    complains "" "helgrind, two threads"
+    write_samples $checker
+    read_samples $checker
+    refuse_lists $checker
+    decode_replies "$short" $checker
+    echo "hosts: no error under valgrind"
+}
+
 hosts/build.sh || fail "the host programs do not build"
+
+memory=
+if command -v valgrind >/dev/null; then
+    (checked_memory) >build/memory-out 2>&1 &
+    memory=$!
+else
+    echo "hosts: SKIPPED: valgrind is not installed, so nothing was run under it"
+fi
 
 # Samples: word for word, and the exit status says that some are refused.
 expect 1 "the samples" build/detect $samples
@@ -375,24 +404,13 @@ makes 0 "check list, staticlib detector, staticlib records, " run lib
 makes 0 "" run lib host
 makes 0 "" clean
 [ ! -e build/tree/build ] || fail "make clean leaves build/"
+rm -r build/tree
 
 # Two threads at once, against one.
 expect 0 "two threads" build/threads 50 $samples
 cat build/printed
 
-if command -v valgrind >/dev/null; then
-    checker="valgrind --quiet --error-exitcode=9 --leak-check=full"
-    expect 1 "valgrind" $checker build/detect $samples
-    complains "" "valgrind"
-    expect 0 "valgrind, two threads" $checker build/threads 1 $samples
-    complains "" "valgrind, two threads"
-    expect 0 "helgrind, two threads" valgrind --tool=helgrind --quiet --error-exitcode=9 build/threads 1 $samples
-    complains "" "helgrind, two threads"
-    write_samples $checker
-    read_samples $checker
-    refuse_lists $checker
-    decode_replies "$short" $checker
-    echo "hosts: no error under valgrind"
-else
-    echo "hosts: SKIPPED: valgrind is not installed, so nothing was run under it"
+if [ -n "$memory" ]; then
+    wait "$memory" || fail "under valgrind: $(cat build/memory-out)"
+    cat build/memory-out
 fi

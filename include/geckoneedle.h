@@ -18,7 +18,7 @@
 #include <stddef.h>
 #include <stdint.h>
 
-#define GECKONEEDLE_VERSION "0.4.0" /* 0, the requests that have landed, corrections */
+#define GECKONEEDLE_VERSION "0.6.0" /* 0, the requests that have landed, corrections */
 
 /* At most: vectors of a block, bits of a label, bytes of a record, numbers that it is made of. */
 #define GECKONEEDLE_VECTORS_MAX 64
@@ -84,7 +84,8 @@ int64_t geckoneedle_read(const uint8_t *record, size_t record_len, int32_t *numb
  * The reply: 43 42 53 31; M, Q, N; then for each vector
  *     mark     0: the search was complete; 1: it was stopped, as no nodes were left to it
  *     nodes    how many it walked, at least M
- *     label    the best label's M x Q bits as one number, stream 1 first, its first bit highest
+ *     label    the best label's M x Q bits as one number, stream 1 first, its first bit highest; of
+ *              equally good ones that with less prior cost, and only then the smallest number
  *     values   M x Q soft values, scaled as the priors are and without them (extrinsic), clipped to
  *              -C .. C; positive says 0. Each is folded: n as 2n if n >= 0, else -2n - 1
  * Numbers are groups of seven bits, low ones first, the high bit set on all groups but the last.

@@ -7,16 +7,17 @@ use reference::format::block::{Block, Vector};
 use reference::format::encoding::Opening;
 use reference::inputs::chance::Chance;
 use reference::inputs::channel::{any_block, opened, Plan, Sizes};
+use reference::inputs::ties;
 use reference::inputs::trials::{self, SMALL_TREES};
 
 /// M and Q with twelve and with sixteen label bits.
 const TWELVE_BITS: [(usize, usize); 2] = [(3, 4), (2, 6)];
 const SIXTEEN_BITS: [(usize, usize); 2] = [(2, 8), (4, 4)];
 
-/// Checks that a walked label's metric is the sum of its parts, and that the distance is the same in both ways.
+/// Checks that a walked label's metric is the sum of its parts, and that both are the same in both ways.
 fn check_parts(block: &Block, vector: &Vector, leaf: &Leaf) {
-    let distance = exhaustive::distance(block, vector, leaf.label);
-    assert_eq!(leaf.metric, distance + exhaustive::prior_cost(block, vector, leaf.label), "{block:?}, {leaf:?}");
+    let (distance, cost) = (exhaustive::distance(block, vector, leaf.label), exhaustive::prior_cost(block, vector, leaf.label));
+    assert_eq!((leaf.metric, leaf.cost), (distance + cost, cost), "{block:?}, {leaf:?}");
     assert_eq!(plain::distance(block, vector, leaf.label), distance, "{block:?}, {leaf:?}");
 }
 
@@ -82,6 +83,13 @@ fn twelve_label_bits() {
 #[test]
 fn sixteen_label_bits() {
     assert!(complete_of_any(15, 40, &SIXTEEN_BITS, 400) > 10);
+}
+
+#[test]
+fn ties_that_priors_decide() {
+    let blocks = ties::records().map(|trial| Block::read(&trial.record).expect("accepted"));
+    let small = blocks.filter(|block| block.label_bits() <= 12);
+    assert!(small.map(|block| complete(&block)).sum::<usize>() > 2_000);
 }
 
 #[test]

@@ -7,7 +7,7 @@ use reference::format::encoding::{unfold, Contents, Opening};
 use reference::format::record::{read, Refusal};
 use reference::format::reply::{self, Answer};
 use reference::inputs::readings::{
-    answer, starred, two_streams, weak, weak_reading, weakened, LISTING_RECORD, LISTING_REPLY, WEAK_RECORD, WEAK_REPLY,
+    answer, starred, tied, two_streams, weak, weak_reading, weakened, LISTING_RECORD, LISTING_REPLY, WEAK_RECORD, WEAK_REPLY,
 };
 use reference::inputs::{cases, eq_31};
 
@@ -102,6 +102,14 @@ fn the_readings_with_w() {
     }
     replies(&WEAK_RECORD, 24, &WEAK_REPLY);
     refuses(&WEAK_RECORD, 23, 14);
+}
+
+/// Document 02, Point 6: equal metrics go to the least prior cost, and only then to the smallest number.
+#[test]
+fn the_readings_of_ties() {
+    for reading in tied() {
+        answers(&reading.contents, &reading.answers);
+    }
 }
 
 /// 16 when W is outside 0 to C, after 7 and before D; a number that is malformed is refused before it is ranged.

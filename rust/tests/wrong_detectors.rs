@@ -2,8 +2,8 @@
 //! with any slip some record tells.
 //!
 //! It keeps 000's list (the best label, its metric, an extrinsic metric for each bit) in place of the leaves. The slips are what
-//! document 01 says that the pruning papers invite, the frauds of its Agreement, what the 256 points and the weak value of document 02
-//! invite, and the likely ones beside them. Its reader goes by the places that `encoding` has.
+//! document 01 says that the pruning papers invite, the frauds of its Agreement, what the 256 points, the weak value and the ties of
+//! document 02 invite, and the likely ones beside them. Its reader goes by the places that `encoding` has.
 
 #[macro_use]
 mod slips;
@@ -16,6 +16,8 @@ use reference::format::record::{check_width, read, read_plain, Refusal};
 use reference::format::reply::{self, Answer};
 use reference::inputs::eq_31;
 use reference::inputs::numbers::{range, row};
+use reference::inputs::readings::tied;
+use reference::inputs::ties;
 use reference::inputs::trials::{self, Trial};
 use slips::is_seen_often;
 
@@ -65,6 +67,41 @@ slips! {
         LimitWithoutPrior,
         /// Two entries of the table of 256 points are exchanged: here -1 - i and -1 + i.
         PointsExchanged(usize, usize) in [PointsExchanged(0b0100_0100, 0b0100_1100)],
+    }
+    /// What equal metrics invite, since prior costs decide between them.
+    tie_slips {
+        /// The smallest number alone decides.
+        NumberAlone,
+        /// The same under one opening alone.
+        NumberAloneUnder(Opening) in Opening::ALL.map(NumberAloneUnder),
+        /// The same of siblings, or of labels, alone.
+        NumberAloneOf(Kind) in [Siblings, Labels].map(NumberAloneOf),
+        /// Cost and number exchanged.
+        NumberBeforeCost,
+        LargerCostFirst,
+        /// The same of siblings, or of labels, alone.
+        LargerCostFirstOf(Kind) in [Siblings, Labels].map(LargerCostFirstOf),
+        /// Only priors of this sign have a cost where metrics are equal.
+        CostOfSign(i64) in [-1, 1].map(CostOfSign),
+        /// A label that takes m's place has the cost of the one before it.
+        CostKept,
+        /// The same where the metrics are equal.
+        CostKeptOnTie,
+        /// Of a label's cost only what its leaf's own stream adds is looked at.
+        LeafCostAlone,
+        /// Of a label's cost what its leaf's own stream adds is left out.
+        LeafCostLeftOut,
+        /// A child of B's metric passes only if its cost is no larger than m's.
+        CostInTest,
+        /// A stopped vector has the smallest of its best labels.
+        SmallestWhenStopped,
+        /// A complete vector has the smallest of its best labels.
+        SmallestWhenComplete,
+    }
+    /// Too few bits for a prior cost, which large numbers alone tell.
+    cost_width_slips {
+        /// Its last bits, as many.
+        NarrowCost(u32) in [8, 16, 20].map(NarrowCost),
     }
     /// What W invites in the search, and in the reply.
     weak_slips {
@@ -135,6 +172,15 @@ slips! {
         UnknownTaken(Opening) in Opening::ALL.map(UnknownTaken),
     }
 }
+
+/// What metrics can be equal of.
+#[derive(Clone, Copy, Debug, PartialEq, Eq)]
+enum Kind {
+    Siblings,
+    Labels,
+}
+
+use Kind::*;
 
 /// The reader, place by place.
 fn read_with(slip: Slip, record: &[u8]) -> Result<Contents, Refusal> {
@@ -285,10 +331,11 @@ fn answers(slip: Slip, block: &Block) -> Vec<Answer> {
 }
 
 fn answer(slip: Slip, block: &Block, vector: &Vector, allowance: i64, has_stopped: bool) -> Answer {
-    let best = Leaf { label: 0, metric: INFINITE };
+    let best = Leaf { label: 0, metric: INFINITE, cost: 0 };
     let extrinsic = vec![INFINITE; block.label_bits()];
-    let mut walk = Walk { slip, block, vector, allowance, nodes: 0, stopped: false, best, extrinsic, ones: 0, zeros: 0 };
-    walk.below(&[], 0);
+    let mut walk =
+        Walk { slip, block, vector, allowance, nodes: 0, stopped: false, best, smallest: 0, extrinsic, ones: 0, zeros: 0 };
+    walk.below(&Node { symbols: vec![], metric: 0, cost: 0, own_cost: 0 });
     let stopped = match slip {
         MarkHidden => false,
         StoppedWhenFull => walk.stopped || walk.nodes == allowance,
@@ -301,7 +348,12 @@ fn answer(slip: Slip, block: &Block, vector: &Vector, allowance: i64, has_stoppe
         _ => walk.stopped,
     };
     let values = (0..block.label_bits()).map(|bit| walk.soft_value(bit, is_weak)).collect();
-    Answer { stopped, nodes: walk.nodes, label: walk.best.label, values }
+    let label = match slip {
+        SmallestWhenStopped if stopped => walk.smallest,
+        SmallestWhenComplete if !stopped => walk.smallest,
+        _ => walk.best.label,
+    };
+    Answer { stopped, nodes: walk.nodes, label, values }
 }
 
 struct Walk<'a> {
@@ -311,8 +363,10 @@ struct Walk<'a> {
     allowance: i64,
     nodes: i64,
     stopped: bool,
-    /// B and m; infinite before the first leaf.
+    /// B, m and its prior cost; B is infinite before the first leaf.
     best: Leaf,
+    /// The smallest of the labels with the least metric.
+    smallest: usize,
     /// For each bit the least metric with it opposite to m's, less the prior that favours m's bit, and clipped from above.
     extrinsic: Vec<i64>,
     /// The bits that are 1, and those that are 0, in some walked label.
@@ -320,46 +374,88 @@ struct Walk<'a> {
     zeros: usize,
 }
 
+/// A node, or the root: the symbols chosen, the lowest stream first, their partial metric, and the prior cost that is looked at where
+/// metrics are equal: of all of them, and of the lowest alone.
+struct Node {
+    symbols: Vec<usize>,
+    metric: i64,
+    cost: i64,
+    own_cost: i64,
+}
+
 impl Walk<'_> {
-    fn below(&mut self, symbols: &[usize], partial: i64) {
-        if symbols.len() == self.block.streams {
-            self.take_leaf(Leaf { label: self.block.label(symbols), metric: partial });
+    fn below(&mut self, node: &Node) {
+        if node.symbols.len() == self.block.streams {
+            let cost = match self.slip {
+                LeafCostAlone => node.own_cost,
+                LeafCostLeftOut => node.cost - node.own_cost,
+                _ => node.cost,
+            };
+            self.take_leaf(Leaf { label: self.block.label(&node.symbols), metric: node.metric, cost });
             return;
         }
-        for (metric, child) in self.children(symbols, partial) {
+        for child in self.children(node) {
             if self.stopped {
                 return;
             }
-            if self.passes(&child, metric) {
-                self.take(&child, metric);
+            if self.passes(&child) {
+                self.take(&child);
             } else if self.slip == SiblingsDropped {
                 return;
             }
         }
     }
 
-    fn take(&mut self, child: &[usize], metric: i64) {
+    fn take(&mut self, child: &Node) {
         if self.nodes == self.allowance {
             self.stopped = true;
         } else {
             self.nodes += 1;
-            self.below(child, metric);
+            self.below(child);
         }
     }
 
-    fn children(&self, symbols: &[usize], partial: i64) -> Vec<(i64, Vec<usize>)> {
-        let stream = self.block.streams - 1 - symbols.len();
+    fn children(&self, node: &Node) -> Vec<Node> {
+        let stream = self.block.streams - 1 - node.symbols.len();
         let child = |symbol: usize| {
-            let chosen = [&[symbol], symbols].concat();
-            let distance = plain::row_distance(self.vector, stream, chosen.iter().map(|&symbol| self.point(symbol)));
-            (partial + distance + plain::prior_cost(self.block, self.vector, stream, symbol), chosen)
+            let symbols = [&[symbol], node.symbols.as_slice()].concat();
+            let distance = plain::row_distance(self.vector, stream, symbols.iter().map(|&symbol| self.point(symbol)));
+            let metric = node.metric + distance + plain::prior_cost(self.block, self.vector, stream, symbol);
+            let own_cost = self.own_cost(stream, symbol);
+            Node { symbols, metric, cost: node.cost + own_cost, own_cost }
         };
         let mut all: Vec<_> = (0..1 << self.block.bits).map(child).collect();
-        if self.slip == LargerSymbolOnTie {
-            all.reverse();
-        }
-        all.sort_by_key(|(metric, _)| *metric);
+        all.sort_by_key(|child| self.rank(Siblings, child.metric, child.cost, child.symbols[0]));
         all
+    }
+
+    /// The prior cost of a stream's symbol that is looked at where metrics are equal.
+    fn own_cost(&self, stream: usize, symbol: usize) -> i64 {
+        let start = stream * self.block.bits;
+        let cost = |place: usize| {
+            let prior = self.vector.priors[start + place];
+            let sign = if symbol >> (self.block.bits - 1 - place) & 1 == 1 { 1 } else { -1 };
+            let counts = !matches!(self.slip, CostOfSign(counted) if counted != prior.signum());
+            (sign * prior * i64::from(counts)).max(0)
+        };
+        (0..self.block.bits).map(cost).sum()
+    }
+
+    /// What labels or siblings rise by.
+    fn rank(&self, kind: Kind, metric: i64, cost: i64, number: usize) -> (i64, i64, i64) {
+        let number = number as i64;
+        match self.slip {
+            NumberAlone => (metric, 0, number),
+            NumberAloneUnder(opening) if opening == self.block.opening => (metric, 0, number),
+            NumberAloneOf(of) if of == kind => (metric, 0, number),
+            NumberBeforeCost => (metric, number, cost),
+            LargerCostFirst => (metric, -cost, number),
+            LargerCostFirstOf(of) if of == kind => (metric, -cost, number),
+            NarrowCost(bits) => (metric, cost % (1 << bits), number),
+            LargerLabelOnTie if kind == Labels => (metric, cost, -number),
+            LargerSymbolOnTie if kind == Siblings => (metric, cost, -number),
+            _ => (metric, cost, number),
+        }
     }
 
     fn point(&self, symbol: usize) -> Complex {
@@ -371,12 +467,13 @@ impl Walk<'_> {
         plain::point(self.block.bits, entry)
     }
 
-    fn passes(&self, child: &[usize], metric: i64) -> bool {
+    fn passes(&self, child: &Node) -> bool {
         if self.best.metric == INFINITE {
             return true;
         }
-        let first_chosen = (self.block.streams - child.len()) * self.block.bits;
-        let path = self.block.label(child);
+        let metric = child.metric;
+        let first_chosen = (self.block.streams - child.symbols.len()) * self.block.bits;
+        let path = self.block.label(&child.symbols);
         let counts = |bit: usize| match bit < first_chosen {
             true => self.slip != UnchosenForgotten,
             false => (path ^ self.best.label) & self.block.mask(bit) != 0,
@@ -385,8 +482,15 @@ impl Walk<'_> {
             AtLimitPasses => metric <= self.limit(bit),
             _ => metric < self.limit(bit),
         };
-        (self.slip != BestLeftOut && metric <= self.best.metric)
-            || (0..self.extrinsic.len()).any(|bit| counts(bit) && is_below(bit))
+        self.is_at_most_best(child) || (0..self.extrinsic.len()).any(|bit| counts(bit) && is_below(bit))
+    }
+
+    fn is_at_most_best(&self, child: &Node) -> bool {
+        match self.slip {
+            BestLeftOut => false,
+            CostInTest => (child.metric, child.cost) <= (self.best.metric, self.best.cost),
+            _ => child.metric <= self.best.metric,
+        }
     }
 
     /// The extrinsic metric, with the prior put back.
@@ -398,13 +502,16 @@ impl Walk<'_> {
         extrinsic + if self.slip == LimitWithoutPrior { 0 } else { self.prior_for(self.best.label, bit) }
     }
 
-    /// 000's list administration, with document 01's order of equal metrics.
+    /// 000's list administration, with document 02's order of equal metrics.
     fn take_leaf(&mut self, leaf: Leaf) {
         self.ones |= leaf.label;
         self.zeros |= !leaf.label;
         let before = self.best;
-        let is_smaller = (leaf.label < before.label) == (self.slip != LargerLabelOnTie);
-        let is_best = leaf.metric < before.metric || (leaf.metric == before.metric && is_smaller);
+        let rank = |leaf: Leaf| self.rank(Labels, leaf.metric, leaf.cost, leaf.label);
+        let is_best = rank(leaf) < rank(before);
+        if leaf.metric < before.metric || (leaf.metric == before.metric && leaf.label < self.smallest) {
+            self.smallest = leaf.label;
+        }
         for bit in 0..self.extrinsic.len() {
             let differs = (leaf.label ^ before.label) & self.block.mask(bit) != 0;
             if is_best && differs && before.metric < INFINITE {
@@ -420,7 +527,12 @@ impl Walk<'_> {
             }
         }
         if is_best {
-            self.best = leaf;
+            let keeps_cost = match self.slip {
+                CostKept => before.metric < INFINITE,
+                CostKeptOnTie => leaf.metric == before.metric,
+                _ => false,
+            };
+            self.best = Leaf { cost: if keeps_cost { before.cost } else { leaf.cost }, ..leaf };
         }
     }
 
@@ -477,9 +589,10 @@ fn with_no_slip_every_record_agrees() {
 
 #[test]
 fn every_slip_is_seen() {
-    assert_eq!((searching_slips().len(), weak_slips().len()), (22, 11));
-    assert_eq!((width_slips().len(), opening_slips().len()), (5, 17));
-    for slip in [searching_slips(), weak_slips(), width_slips(), opening_slips()].concat() {
+    assert_eq!((searching_slips().len(), tie_slips().len(), cost_width_slips().len()), (22, 18, 3));
+    assert_eq!((weak_slips().len(), width_slips().len(), opening_slips().len()), (11, 5, 17));
+    let searching = [searching_slips(), tie_slips(), cost_width_slips(), weak_slips()];
+    for slip in [searching.concat(), width_slips(), opening_slips()].concat() {
         let seen = trials::all().filter(|trial| trial.suits_plain).any(|trial| !agree(slip, &trial));
         assert!(seen, "no record tells {slip:?}");
     }
@@ -492,9 +605,21 @@ fn every_slip_is_seen_often() {
         let by_chance = trials::priors_beyond_the_clip().chain(trials::ties());
         assert!(is_seen_often(by_chance, |trial| !agree(slip, trial)), "{slip:?}");
     }
+    for slip in [tie_slips(), cost_width_slips()].concat() {
+        assert!(is_seen_often(ties::records(), |trial| !agree(slip, trial)), "{slip:?}");
+    }
     for slip in weak_slips() {
         assert!(is_seen_often(trials::weak_values(), |trial| !agree(slip, trial)), "{slip:?}");
         assert!(is_seen_often(trials::weak_channels(), |trial| !agree(slip, trial)), "{slip:?}");
+    }
+}
+
+/// The readings of ties alone see what prior costs invite.
+#[test]
+fn every_slip_of_ties_is_seen_by_a_reading() {
+    for slip in tie_slips() {
+        let seen = tied().into_iter().any(|reading| answers(slip, &Block::of(&reading.contents)) != reading.answers);
+        assert!(seen, "no reading tells {slip:?}");
     }
 }
 

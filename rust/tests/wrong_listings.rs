@@ -5,7 +5,7 @@
 mod slips;
 
 use reference::detectors::fast;
-use reference::detectors::plain::{self, Found};
+use reference::detectors::plain::{self, Found, Leaf};
 use reference::format::block::{is_against, Block, Complex, Vector};
 use reference::format::record::Refusal;
 use reference::format::reply::decode;
@@ -35,8 +35,6 @@ slips! {
         NearestOfAll,
         /// A stopped vector has that of the best label of all.
         BestOfAll,
-        /// A label that takes the best one's place by its smaller number alone leaves the distance as it is.
-        KeptOnTie,
         /// That of another vector.
         Of(Other) in [First, Last, Next, Before].map(Of),
         /// The vectors' distances are added up.
@@ -49,6 +47,17 @@ slips! {
         TopRowLeftOut,
         RealAlone,
         ImaginaryAlone,
+    }
+    /// Another label's number where metrics are equal.
+    tie_slips {
+        /// A label that takes the best one's place leaves the distance as it is.
+        KeptOnTie,
+        /// That of the smallest of the best labels.
+        SmallestOnTie,
+        /// That of the largest of the best labels.
+        LargestOnTie,
+        /// The least of the best labels.
+        NearestOnTie,
     }
     /// The right number, and too few bits for it.
     width_slips {
@@ -167,9 +176,16 @@ fn own_number(slip: Slip, searched: &Searched, index: usize) -> i64 {
         OneSignOff(1) => distance(label) + cost(|prior| prior < 0),
         OneSignOff(_) => distance(label) + cost(|prior| prior > 0),
         AllPriorsOff => distance(label) + cost(|_| true) - vector.priors.iter().map(|prior| prior.abs()).sum::<i64>(),
+        NearestOnTie => best(&found.leaves).into_iter().map(distance).min().expect("a walked leaf"),
         NearestWalked => found.leaves.iter().map(|leaf| distance(leaf.label)).min().expect("a walked leaf"),
         _ => part(slip, &residuals(block, vector, label)),
     }
+}
+
+/// The labels of the least metric, in the walk's order.
+fn best(leaves: &[Leaf]) -> Vec<usize> {
+    let least = leaves.iter().map(|leaf| leaf.metric).min();
+    leaves.iter().filter(|leaf| Some(leaf.metric) == least).map(|leaf| leaf.label).collect()
 }
 
 /// The label whose distance is taken.
@@ -178,8 +194,9 @@ fn label_of(slip: Slip, searched: &Searched, index: usize) -> usize {
     match slip {
         FirstLeaf => leaves[0].label,
         LastLeaf => leaves[leaves.len() - 1].label,
-        // The first of those that are equal.
-        KeptOnTie => leaves.iter().min_by_key(|leaf| leaf.metric).expect("a walked leaf").label,
+        KeptOnTie => best(leaves)[0],
+        SmallestOnTie => *best(leaves).iter().min().expect("a walked leaf"),
+        LargestOnTie => *best(leaves).iter().max().expect("a walked leaf"),
         BestOfAll if answer.stopped => searched.best[index],
         NearestOfAll => searched.nearest[index],
         _ => answer.label,
@@ -298,7 +315,7 @@ fn last_words(printed: &str) -> Vec<&str> {
 
 #[test]
 fn with_no_slip_every_stored_listing_is_met() {
-    assert_eq!(names().len(), 21);
+    assert_eq!(names().len(), 22);
     for name in names() {
         let (record, printed) = stored(&name);
         let text = match Searched::of(&record) {
@@ -309,19 +326,23 @@ fn with_no_slip_every_stored_listing_is_met() {
     }
 }
 
-/// One sample tells all slips but those of the width, which another tells.
+/// One sample tells all slips but those of ties and of the width, which two others tell.
 #[test]
-fn two_samples_tell_every_slip() {
-    assert_eq!((number_slips().len(), width_slips().len(), form_slips().len()), (22, 7, 16));
+fn three_samples_tell_every_slip() {
+    assert_eq!((number_slips().len(), tie_slips().len()), (21, 4));
+    assert_eq!((width_slips().len(), form_slips().len()), (7, 16));
     tells("distance", [number_slips(), form_slips()].concat());
+    tells("ties", tie_slips());
     tells("far", width_slips());
 }
 
-/// The distances of both, which are worked out by hand where their numbers stand.
+/// The distances of the three, which are worked out by hand where their numbers stand.
 #[test]
-fn the_distances_of_two_samples() {
+fn the_distances_of_three_samples() {
     let (_, distance) = stored("distance");
     assert_eq!(last_words(&distance), ["1", "1", "5", "5", "5", "0", "30", "36", "64", "1", "17"]);
+    let (_, ties) = stored("ties");
+    assert_eq!(last_words(&ties), ["5", "9", "5", "5", "2", "4", "5", "5", "18"]);
     let (_, far) = stored("far");
     let digits = ["34351350272", "34352923024", "4294967296", "3200000000", "122051235114", "170198885076"];
     assert_eq!(last_words(&far), digits);
@@ -330,7 +351,7 @@ fn the_distances_of_two_samples() {
 /// Records by chance tell too; their trees are so small that the best labels of all are found at once.
 #[test]
 fn every_slip_is_seen_often() {
-    for slip in [number_slips(), width_slips(), form_slips()].concat() {
+    for slip in [number_slips(), tie_slips(), width_slips(), form_slips()].concat() {
         let by_chance = trials::ties().chain(trials::full_range()).chain(trials::ends()).map(|trial| trial.record);
         let small = by_chance.filter(|record| Block::read(record).is_ok_and(|block| block.label_bits() <= 8));
         let tells = |record: &Vec<u8>| listing_with(slip, &Searched::of(record).expect("accepted")) != listing(record);

@@ -1,11 +1,9 @@
-// The block record: every list of bytes is read into its whole numbers, or refused by document 01's table with document 02's 15 and 16. Here
-// stand what the modules share, the layouts, and the counts that a reader of the numbers asks for.
+// The block record: which numbers it has, how many and in which order, by its layout and its own first numbers; and the counts that a reader of
+// the numbers asks for.
 mod order;
-mod reader;
 
-pub use reader::layout_of;
-pub use reader::read_record;
-pub use reader::read_whole;
+pub use order::run_at;
+pub use order::run_count;
 use refusals::Kind;
 use refusals::Refusal;
 ghost use mathlib.Core.Path.{_≡_};
@@ -28,7 +26,7 @@ pub enum Layout {
 }
 
 // A number taken and the place after it, or why the record is turned back there.
-enum One {
+pub enum One {
     Taken(i32, usize),
     Turned(Refusal),
 }
@@ -40,13 +38,13 @@ pub enum Read {
 }
 
 // Numbers of one kind side by side.
-struct Run {
-    kind: Kind,
-    count: usize,
+pub struct Run {
+    pub kind: Kind,
+    pub count: usize,
 }
 
 // The parts of a record: M; Q, N and C, with M; so many numbers W, and D, with M and C; a vector with M and Q.
-enum Part {
+pub enum Part {
     First,
     Sizes(i32),
     Limits(usize, i32, i32),
@@ -64,7 +62,7 @@ pub fn opening(layout: Layout) -> [u8; 4]
 }
 
 // How many numbers W it has.
-fn weak_count(layout: Layout) -> usize
+pub fn weak_count(layout: Layout) -> usize
     ensures { λ r. ⌜ r ≡ weakCount layout ⌝ }
 {
     match layout {

@@ -75,7 +75,7 @@ fn vector_run(m: usize, q: usize, i: usize) -> Run
 }
 
 // How many runs a part has.
-pub(super) fn run_count(part: Part) -> usize
+pub fn run_count(part: Part) -> usize
     requires { ⌜ Small part ⌝ }
     ensures { λ r. ⌜ r ≡ length (runsOf part) ⌝ }
 {
@@ -88,7 +88,7 @@ pub(super) fn run_count(part: Part) -> usize
 }
 
 // The i-th run of a part.
-pub(super) fn run_at(part: Part, i: usize) -> Run
+pub fn run_at(part: Part, i: usize) -> Run
     requires { ⌜ Small part × (i < length (runsOf part)) ⌝ }
     ensures { λ r. ⌜ r ≡ getD (runsOf part) i noRun ⌝ }
 {

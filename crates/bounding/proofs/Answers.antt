@@ -19,9 +19,9 @@ use Rattle.model.proofs.Numbers.{first-half}
 use Rattle.constellation.specs.Points.{complexOf}
 use Rattle.metric.specs.Parts.{span, axisDistance, nearestOf, childMetric}
 use Rattle.metric.specs.Rows.{rowStart, rowAt, remainderOf, childOf}
-use Rattle.metric.specs.Tables.Axis.{real, imaginary}
+use Rattle.axes.specs.Tables.Axis.{real, imaginary}
 use Rattle.metric.proofs.Rows.{diagonal-within}
-use Rattle.metric.proofs.Tables.{axis-few}
+use Rattle.axes.proofs.Tables.{axis-few}
 use Rattle.bounding.specs.Cut.{OpensAsked, Widest, Beyond}
 use Rattle.bounding.specs.Axes.{BitAsked}
 use Rattle.bounding.specs.Answers.{reachedBy, bitsOpen, anyBit, overAt, anyPart, leastPart, opened, someChildMayPass, someChildMayPassByParts}

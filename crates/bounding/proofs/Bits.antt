@@ -15,7 +15,7 @@ use Rattle.model.specs.Constellation.{bitsOf, amplitude}
 use Rattle.model.proofs.Numbers.{length-bitsOf}
 use Rattle.metric.specs.Parts.{bitOf, axisDistance}
 use Rattle.metric.proofs.Folds.{fold-nearer, beyond-fold}
-use Rattle.metric.proofs.Bridge.{distance-near}
+use Rattle.axes.proofs.Bridge.{distance-near}
 use Rattle.metric.proofs.Opposite.{xor-opposite}
 use Rattle.bounding.specs.Axes.{BitAsked}
 use Rattle.bounding.proofs.Runs.{NoneOver}

@@ -9,9 +9,9 @@ use lib.ListN.{getD}
 use lib.Pow.{pow-pos}
 use Rattle.model.specs.Block.{mostWidth}
 use Rattle.metric.specs.Parts.{span, childMetric}
-use Rattle.metric.specs.Tables.{Axis, axisBits}
-use Rattle.metric.specs.Tables.Axis.{imaginary}
-use Rattle.metric.proofs.Tables.{axis-few}
+use Rattle.axes.specs.Tables.{Axis, axisBits}
+use Rattle.axes.specs.Tables.Axis.{imaginary}
+use Rattle.axes.proofs.Tables.{axis-few}
 use Rattle.model.proofs.Numbers.{first-half}
 use Rattle.bounding.specs.Cut.{symbolReach, Beyond}
 use Rattle.bounding.specs.Axes.{WidestLast}

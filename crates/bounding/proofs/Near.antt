@@ -11,24 +11,24 @@ use lib.Pow.{pow-mono}
 use Rattle.model.specs.Constellation.{bitsOf}
 use Rattle.model.specs.Block.{mostEntry}
 use Rattle.constellation.specs.Points.{complexOf}
-use Rattle.metric.specs.Parts.{axisWidth, span, axisDistance, nearestOf}
+use Rattle.metric.specs.Parts.{remainderBound, axisWidth, span, axisDistance, nearestOf}
 use Rattle.metric.specs.Rows.{rowStart, rowAt, remainderOf, childOf}
-use Rattle.metric.specs.Tables.{Axis, axisBits}
-use Rattle.metric.specs.Tables.Axis.{real, imaginary}
-use Rattle.metric.proofs.Bridge.{distance-near, child-distances}
+use Rattle.axes.specs.Tables.{Axis, axisBits}
+use Rattle.axes.specs.Tables.Axis.{real, imaginary}
+use Rattle.axes.proofs.Bridge.{distance-near, child-distances}
 use Rattle.metric.proofs.Rows.{diagonal-within}
-use Rattle.metric.proofs.Tables.{axis-few}
+use Rattle.axes.proofs.Tables.{axis-few}
 use Rattle.bounding.specs.Cut.{OpensAsked, Beyond}
 use Rattle.bounding.specs.Axes.{WidestLast, ByBits, BitAsked}
 use Rattle.bounding.proofs.Runs.{NoneOver}
 use Rattle.bounding.proofs.Halves.{none-wider, parts-beyond, beyond-more}
 
 -- A distance's square
-pub square-small : (n : ℕ) → n < 2 ^ 30 → n * n < 2 ^ 60
-square-small n h = let k : n ≤ 2 ^ 30 - 1 = omega arith in omega (arith, mul-le-mul k k)
+pub square-small : (n : ℕ) → n < remainderBound → n * n < 2 ^ 60
+square-small n h = let k : n ≤ remainderBound - 1 = omega arith in omega (arith, mul-le-mul k k)
 
 -- The nearest distance stays in its range
-pub near-small : (diagonal w d : ℕ) → diagonal ≤ mostEntry → w ≤ axisWidth → d < 2 ^ 30 → nearestOf diagonal w d < 2 ^ 30
+pub near-small : (diagonal w d : ℕ) → diagonal ≤ mostEntry → w ≤ axisWidth → d < remainderBound → nearestOf diagonal w d < remainderBound
 unfolding nearestOf
 near-small diagonal zero d h k l = l
 near-small diagonal (suc w) d h k l =
@@ -60,7 +60,7 @@ module _ {m q row : ℕ} {re im : ℤ} {partial : ℕ} {numbers : List ℤ} {ent
   module _ (x : Axis) (left : ℤ) (other near low label : ℕ) (is : near ≡ nearestOf diagonal (axisBits q x) (natAbs left))
       (least : low ≤ other + near * near) (below : label < 2 ^ axisBits q x) where
     -- What holding the limits of its bits against the distances asks
-    pub bit-asked : (from : ℕ) → natAbs left < 2 ^ 30 → other < 2 ^ 62 → from ≡ entriesFrom x
+    pub bit-asked : (from : ℕ) → natAbs left < remainderBound → other < 2 ^ 62 → from ≡ entriesFrom x
         → BitAsked left diagonal (axisBits q x) other low entries from label
     bit-asked from remains added begins = rw begins (record {
       bits = axis-few q x (asked .vector .bits);

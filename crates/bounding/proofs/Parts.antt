@@ -7,9 +7,9 @@ use lib.IntN.{ℤ}
 use Rattle.model.specs.Constellation.{bitsOf}
 use Rattle.constellation.specs.Points.{complexOf}
 use Rattle.metric.specs.Rows.{rowAt, remainderOf, childOf}
-use Rattle.metric.specs.Tables.{axisPlace, tablePart, Tabled}
-use Rattle.metric.specs.Tables.Axis.{real, imaginary}
-use Rattle.metric.proofs.Bridge.{axis-asked, part-small, child-parts}
+use Rattle.axes.specs.Tables.{axisPlace, tablePart, Tabled}
+use Rattle.axes.specs.Tables.Axis.{real, imaginary}
+use Rattle.axes.proofs.Bridge.{axis-asked, part-small, child-parts}
 use Rattle.bounding.specs.Cut.{OpensAsked, TableAsked, Beyond}
 use Rattle.bounding.specs.Answers.{someChildMayPassByParts}
 use Rattle.bounding.proofs.Answers.{parts-all-shut}

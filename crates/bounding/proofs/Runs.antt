@@ -10,7 +10,7 @@ use lib.IntN.{ℤ}
 use lib.ListN.{getD}
 use lib.Pow.{pow-pos, pow-mono}
 use Rattle.metric.specs.Parts.{axisWidth, span}
-use Rattle.metric.specs.Tables.{AxisAsked}
+use Rattle.axes.specs.Tables.{AxisAsked}
 use Rattle.metric.proofs.Shifts.{one-shifted}
 use Rattle.bounding.specs.Axes.{LabelAsked}
 

@@ -8,8 +8,8 @@ use lib.IntN.{ℤ, pos, natAbs}
 use lib.ListN.{length, getD}
 use Rattle.model.specs.Block.{mostEntry}
 use Rattle.metric.specs.Parts.{axisWidth, span, nearestOf, bitOf, remainderBound}
-use Rattle.metric.specs.Tables.{tableSize, axisPlace, axisBits, tablePart, AxisAsked}
-use Rattle.metric.specs.Tables.Axis.{real, imaginary}
+use Rattle.axes.specs.Tables.{tableSize, axisPlace, axisBits, tablePart, AxisAsked}
+use Rattle.axes.specs.Tables.Axis.{real, imaginary}
 
 -- Of the entries of an axis of w bits, which stand from a place on, the last, that of the label whose bits are all 1, is the widest
 abbrev pub WidestLast : List ℕ → ℕ → ℕ → Type 0

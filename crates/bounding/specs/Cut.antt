@@ -9,8 +9,8 @@ use lib.ListN.{length, getD}
 use Rattle.model.specs.Block.{mostWidth}
 use Rattle.metric.specs.Parts.{span, remainderBound}
 use Rattle.metric.specs.Rows.{VectorAsked}
-use Rattle.metric.specs.Tables.{axisPlace}
-use Rattle.metric.specs.Tables.Axis.{real, imaginary}
+use Rattle.axes.specs.Tables.{axisPlace}
+use Rattle.axes.specs.Tables.Axis.{real, imaginary}
 use Rattle.bounding.specs.Axes.{WidestLast, ByBits, LeastAsked}
 
 -- A stream's entries: for each real label, then a span later for each imaginary one, the widest limit of the bits that are 1 in it. Of a

@@ -1,7 +1,7 @@
 // Would every child of a node be cut? Decided from what remains of y, before a part of an axis is stored: by the distances alone (`some_child_may_pass`),
 // and, where there are priors, by the parts with their costs (`some_child_may_pass_by_parts`).
+use axes::TABLE;
 use metric::AXES;
-use metric::TABLE;
 use tree::Complex;
 use tree::Task;
 ghost use mathlib.Core.Path.{_≡_};
@@ -9,8 +9,8 @@ ghost use mathlib.Core.Bool.{cond, Bool·beq};
 ghost use Prim.Native.Nat.{_+_, _*_, _-_, _<_, _≤_, _^_};
 ghost use Rattle.model.specs.Block.{mostStreams, mostWidth};
 ghost use Rattle.metric.specs.Parts.{axisWidth, span};
-ghost use Rattle.metric.specs.Tables.{tableSize, axisPlace, tablePart};
-ghost use Rattle.metric.specs.Tables.Axis.{real, imaginary};
+ghost use Rattle.axes.specs.Tables.{tableSize, axisPlace, tablePart};
+ghost use Rattle.axes.specs.Tables.Axis.{real, imaginary};
 ghost use Rattle.bounding.specs.Cut.{OpensAsked, TableAsked};
 ghost use Rattle.bounding.specs.Axes.{BitAsked, LabelAsked, PartAsked, LeastAsked, axisPriced, pricedBy};
 ghost use Rattle.bounding.specs.Answers.{anyBit, anyPart, leastPart, someChildMayPass, someChildMayPassByParts};
@@ -140,7 +140,7 @@ fn part_at(tables: &[i32; TABLE], at: usize, left: i64, g: usize) -> u64
     requires { ⌜ LabelAsked (now tables) at left g ⌝ }
     ensures { λ r. ⌜ r ≡ tablePart (now (tables .entry)) at left g ⌝ }
 {
-    metric::axis_part(left, tables[at + g], tables[at + SPAN + g])
+    axes::axis_part(left, tables[at + g], tables[at + SPAN + g])
 }
 
 // Is one of the labels of an axis of w bits, with `other` added to its part, below the widest limit of the bits in which it differs from

@@ -25,14 +25,14 @@ use Rattle.block.specs.declared.Read.{Read}
 use Rattle.block.specs.declared.Read.the-variants.{Ended, Refused}
 use Rattle.refusals.proofs.Fillings.{not-both}
 use Rattle.block.proofs.Conditions.{turned-back, whole-read, read-whole, whole-in-range}
-use Rattle.detector.specs.Reply.{replyOf, replyRoom}
+use Rattle.replies.specs.Reply.{replyOf, replyRoom}
 use Rattle.refusals.specs.Filling.{Filling, refused, filled, returned, bufferAfter}
 use Rattle.refusals.specs.Table.{refusalNumber}
 use Rattle.detector.specs.Outcome.{byRoom, byReading, outcome}
 use Rattle.detector.specs.Demand.{Condition, Accepted, nthAnswer, EachComplete, Met}
 use Rattle.detector.proofs.Outcomes.{room-short}
-use Rattle.detector.proofs.Replies.{reply-room}
-use Rattle.detector.proofs.ReadBack.{read-back}
+use Rattle.replies.proofs.Replies.{reply-room}
+use Rattle.replies.proofs.ReadBack.{read-back}
 
 module _ (room : ℕ) (b : Block) where
   -- A block's refusal is the buffer's, which is too short

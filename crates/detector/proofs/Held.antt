@@ -24,13 +24,14 @@ use Rattle.block.specs.declared.Layout.{Layout}
 use Rattle.block.proofs.Places.{vectors-count, vector-at}
 use Rattle.search_spec.specs.Program.{answerOf}
 use Rattle.search.specs.Values.{Answered}
-use Rattle.detector.specs.Reply.{markOf, answerNumbers, answersNumbers, written, replyRoom, mostReply}
+use Rattle.replies.specs.Reply.{markOf, answerNumbers, answersNumbers, written, replyRoom, mostReply}
 use Rattle.search.specs.Holds.{Holds}
-use Rattle.detector.specs.Steps.{Heads, SoftAsked, FoundAsked, AllowanceAsked, SearchOneAsked, allowanceAt, answerAt}
+use Rattle.detector.specs.Steps.{Heads, AllowanceAsked, SearchOneAsked, allowanceAt, answerAt}
+use Rattle.replies.specs.Asked.{SoftAsked, FoundAsked}
 use Rattle.detector.specs.declared.Header.{Header}
-use Rattle.detector.proofs.Replies.{Short, soft-count, bits-are, count-short, label-short, soft-short, answer-room}
-use Rattle.detector.proofs.Replies.{written-append, written-first}
-use Rattle.detector.proofs.Steps.{wrote-both}
+use Rattle.replies.proofs.Replies.{Short, soft-count, bits-are, count-short, label-short, soft-short, answer-room}
+use Rattle.replies.proofs.Replies.{written-append, written-first}
+use Rattle.replies.proofs.Steps.{wrote-both}
 
 -- What every member of a mapped list has, by its place
 every-at : (f : ℤ → ℕ) (zs : List ℤ) (i : ℕ) → Every Short (map f zs) → i < length zs → Short (f (getD zs i (pos 0)))

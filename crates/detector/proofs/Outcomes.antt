@@ -11,7 +11,7 @@ use Rattle.block.specs.Contents.{blockOf}
 use Rattle.refusals.specs.declared.Refusal.{Refusal}
 use Rattle.refusals.specs.declared.Refusal.the-variants.{Buffer}
 use Rattle.block.specs.declared.Read.the-variants.{Ended, Refused}
-use Rattle.detector.specs.Reply.{replyOf, replyRoom}
+use Rattle.replies.specs.Reply.{replyOf, replyRoom}
 use Rattle.refusals.specs.Filling.{refused, filled}
 use Rattle.detector.specs.Outcome.{byRoom, outcome}
 use Rattle.block.proofs.Lent.{lent-block}

@@ -2,7 +2,7 @@
 use mathlib.Core.Path.{_≡_, refl}
 use mathlib.Core.List.{[], _∷_}
 use Rattle.model.specs.Constellation.{number, symbols, amplitude, point}
-use Rattle.model.specs.Metric.{dot, residual, priorCost, increment, metric, allPriors}
+use Rattle.model.specs.Metric.{dot, residual, priorCost, increment, metric, cost, allPriors}
 use Rattle.model.specs.Order.{earlier}
 use Rattle.model.specs.Soft.{leastOf, those, pick, upFrom}
 use Rattle.model.specs.Walk.{passes, insert, sort, children, walkBelow}
@@ -15,7 +15,7 @@ use Rattle.block.specs.Reading.{readRecord, readWhole}
 use Rattle.block.specs.Contents.{complexes, rowsFrom, rowsOf, blockOf}
 use Rattle.refusals.specs.Filling.{filled}
 use Rattle.block.proofs.Readings.{listingRecord, weakenedRecord}
-use Rattle.detector.specs.Reply.{answersNumbers, written, replyOf, replyRoom}
+use Rattle.replies.specs.Reply.{answersNumbers, written, replyOf, replyRoom}
 use Rattle.detector.specs.Outcome.{byRoom, outcome}
 
 -- "Reply: 43 42 53 31 02 01 02 01 04 02 0F 14 01 02 02 13 14", into the 7 + 2 × (9 + 4 × 2 × 1) = 41 bytes that are asked for. And the
@@ -27,6 +27,6 @@ pub reply-readings : (outcome listingRecord 41
     ≡ filled (0x43 ∷ 0x42 ∷ 0x53 ∷ 0x31 ∷ 0x02 ∷ 0x01 ∷ 0x01 ∷ 0x01 ∷ 0x04 ∷ 0x02 ∷ 0x0F ∷ 0x0E ∷ []))
 unfolding outcome byRoom replyRoom replyOf answersNumbers written bytesOf groupsOf folded readWhole readRecord layoutOf stagesAt vectorKinds
     numbersAt kindsOf runsOf matrixRuns byNumber numberAt groups aboveDigits lastGroup unfolded startsWith blockOf rowsOf rowsFrom complexes
-    upFrom number symbols amplitude point dot residual priorCost increment metric allPriors earlier leastOf those pick passes insert sort
+    upFrom number symbols amplitude point dot residual priorCost increment metric cost allPriors earlier leastOf those pick passes insert sort
     children walkBelow answer answersFrom
 reply-readings = (refl, refl)

@@ -10,14 +10,14 @@ use lib.ListN.{length}
 use Rattle.wire.specs.Writing.{Wrote}
 use Rattle.model.specs.Block.{answers}
 use Rattle.block.specs.Contents.{blockOf}
-use Rattle.detector.specs.Reply.{replyOpening, answerNumbers, answersNumbers, written, replyOf, replyRoom}
+use Rattle.replies.specs.Reply.{replyOpening, answerNumbers, answersNumbers, written, replyOf, replyRoom}
 use Rattle.constellation.specs.Points.{Points}
-use Rattle.search.specs.Limits.{keyPlaces}
+use Rattle.search.specs.Nodes.{keyPlaces}
 use Rattle.search.specs.Holds.{Holds}
 use Rattle.detector.specs.Steps.{Heads, StepAsked, answerAt}
 use Rattle.detector.specs.declared.Header.{Header}
-use Rattle.detector.proofs.Replies.{written-append}
-use Rattle.detector.proofs.Steps.{wrote-length, Left, left-all, left-more, left-none}
+use Rattle.replies.proofs.Replies.{written-append}
+use Rattle.replies.proofs.Steps.{wrote-length, Left, left-all, left-more, left-none}
 use Rattle.detector.proofs.Held.{streams-are, width-are, vectors-are, room-is, spent-none}
 use Rattle.detector.proofs.Held.{inside, spent-more, step-room, restOf, rest-more, rest-none}
 

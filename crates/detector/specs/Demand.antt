@@ -15,8 +15,8 @@ use Rattle.block.specs.Conditions.{Whole, TurnedBack}
 use Rattle.refusals.specs.Table.{refusalNumber}
 use Rattle.refusals.specs.declared.Refusal.{Refusal}
 use Rattle.refusals.specs.declared.Refusal.the-variants.{Buffer}
-use Rattle.detector.specs.Reply.{replyRoom}
-use Rattle.detector.specs.ReadBack.{readBack, saying}
+use Rattle.replies.specs.Reply.{replyRoom}
+use Rattle.replies.specs.ReadBack.{readBack, saying}
 
 -- The table's last row: the record is whole, and the buffer "shorter than 7 + N × (9 + 4 × M × Q)"
 pub record TooShort (bytes : List ℕ) (room : ℕ) : Type 0 where

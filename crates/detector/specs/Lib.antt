@@ -1,5 +1,3 @@
-pub mod Reply
-pub mod ReadBack
 pub mod Outcome
 pub mod Demand
 pub mod Steps

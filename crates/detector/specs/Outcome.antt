@@ -14,7 +14,7 @@ use Rattle.refusals.specs.Filling.{Filling, refused, filled}
 use Rattle.refusals.specs.declared.Refusal.the-variants.{Buffer}
 use Rattle.block.specs.declared.Read.{Read}
 use Rattle.block.specs.declared.Read.the-variants.{Ended, Refused}
-use Rattle.detector.specs.Reply.{replyOf, replyRoom}
+use Rattle.replies.specs.Reply.{replyOf, replyRoom}
 
 -- Of a record that is read: a buffer "shorter than 7 + N × (9 + 4 × M × Q)" is refused
 unfoldable pub byRoom : ℕ → Block → Filling ℕ

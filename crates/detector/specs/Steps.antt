@@ -2,16 +2,14 @@
 use Prim.Native.Nat.{ℕ, _+_, _-_, _*_, _^_, _<_, _≤_}
 use mathlib.Core.Path.{_≡_}
 use mathlib.Core.List.{List}
-use lib.IntN.{ℤ, pos}
-use lib.ListN.{length, getD}
+use lib.IntN.{ℤ}
 use Rattle.model.specs.Block.{Answer, vectorOf, answer, allowance, mostStreams, mostBits, mostVectors}
-use Rattle.wire.specs.Folding.{folded}
 use Rattle.block.specs.Reading.{weakPlace, sharePlace, countAt}
 use Rattle.block.specs.declared.Layout.{Layout}
 use Rattle.block.specs.Contents.{vectorRows, blockOf}
-use Rattle.detector.specs.Reply.{replyRoom}
+use Rattle.replies.specs.Reply.{replyRoom}
 use Rattle.constellation.specs.Points.{Points}
-use Rattle.search.specs.Limits.{keyPlaces}
+use Rattle.search.specs.Nodes.{keyPlaces}
 use Rattle.search.specs.Holds.{Holds}
 use Rattle.detector.specs.declared.Header.{Header}
 
@@ -32,19 +30,6 @@ allowanceAt layout list spent k = allowance (blockOf layout list) spent (countAt
 unfoldable pub answerAt : Layout → List ℤ → ℕ → ℕ → Answer
 answerAt layout list spent k =
     answer (vectorOf (blockOf layout list) (vectorRows layout list k)) (blockOf layout list .weak) (allowanceAt layout list spent k)
-
--- What writing n soft values asks: room for four groups each, and values that fit these
-pub record SoftAsked (at n : ℕ) (soft : List ℤ) (room : ℕ) : Type 0 where
-  pub few : n ≤ mostBits
-  pub bits : length soft ≡ mostBits
-  pub buffer : at + 4 * n ≤ room
-  pub each : (i : ℕ) → i < n → folded (getD soft i (pos 0)) < 2 ^ 28
-
--- What writing a mark and two numbers asks: room for one group and four each
-pub record FoundAsked (at count label room : ℕ) : Type 0 where
-  pub counts : count < 2 ^ 28
-  pub labels : label < 2 ^ 28
-  pub buffer : at + 9 ≤ room
 
 -- What an allowance asks: M nodes are left for each vector from k on, and N x D is a machine number
 pub record AllowanceAsked (h : Header) (spent k : ℕ) : Type 0 where

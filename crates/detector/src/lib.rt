@@ -7,21 +7,18 @@ use refusals::Refusal;
 use search::Found;
 use tree::Task;
 ghost use mathlib.Core.Path.{_≡_};
-ghost use mathlib.Core.List.{[], _∷_, _++_, map};
 ghost use Prim.Native.Nat.{_+_, _-_, _*_, _<_, _≤_};
-ghost use lib.ListN.{length, take};
+ghost use lib.ListN.{length};
 ghost use Rattle.wire.specs.Writing.{Wrote};
-ghost use Rattle.wire.specs.Folding.{folded};
-ghost use Rattle.model.specs.Block.{vectorOf, mostStreams, mostWidth, mostBits, mostVectors};
+ghost use Rattle.model.specs.Block.{vectorOf, mostBits};
 ghost use Rattle.block.specs.Reading.{mostNumbers};
 ghost use Rattle.block.specs.Contents.{vectorRows, blockOf};
 ghost use Rattle.search.specs.Values.{Answered};
-ghost use Rattle.detector.specs.Reply.{replyOpening, markOf, answerNumbers, written, replyOf};
+ghost use Rattle.replies.specs.Reply.{answerNumbers, written, replyOf};
 ghost use Rattle.refusals.specs.Filling.{returned, bufferAfter};
 ghost use Rattle.detector.specs.Outcome.{outcome, byRoom};
 ghost use Rattle.search.specs.Holds.{Holds};
-ghost use Rattle.detector.specs.Steps.{Heads, answerAt};
-ghost use Rattle.detector.specs.Steps.{SoftAsked, FoundAsked, AllowanceAsked, SearchOneAsked, StepAsked, ReplyAsked};
+ghost use Rattle.detector.specs.Steps.{Heads, answerAt, AllowanceAsked, SearchOneAsked, StepAsked, ReplyAsked};
 
 // A record's M, Q, N, C, W and D, and its layout.
 pub struct Header {
@@ -40,8 +37,6 @@ struct Step {
     spent: u32,
 }
 
-const REPLY_OPENING: [u8; 4] = [0x43, 0x42, 0x53, 0x31];
-
 // The header of the lent list, which has a layout.
 pub fn header_of(layout: Layout, numbers: &[i32]) -> Header
     requires { ⌜ length (now numbers) ≡ mostNumbers ⌝ }
@@ -56,52 +51,6 @@ pub fn header_of(layout: Layout, numbers: &[i32]) -> Header
         weak: block::count_at(numbers, block::weak_place(layout)),
         share: block::count_at(numbers, block::share_place(layout)),
     }
-}
-
-// The opening and M, Q, N, each in one group; the place after them.
-fn write_head(reply: &mut [u8], m: usize, q: usize, n: usize) -> usize
-    requires { ⌜ (7 ≤ length (now reply)) × (m < 128) × (q < 128) × (n < 128) ⌝ }
-    ensures { λ r. ⌜ (r ≡ 7) × Wrote (now (reply .entry)) 0 (replyOpening ++ written (m ∷ q ∷ n ∷ [])) (now (reply .exit)) r ⌝ }
-{
-    wire::write_opening(reply, REPLY_OPENING);
-    let second = wire::write_number(reply, 4, m as u32);
-    let third = wire::write_number(reply, second, q as u32);
-    wire::write_number(reply, third, n as u32)
-}
-
-// The first n soft values, folded; the place after them.
-fn write_soft(reply: &mut [u8], at: usize, soft: &[i32; LABEL_BITS], n: usize) -> usize
-    requires { ⌜ SoftAsked at n (now soft) (length (now reply)) ⌝ }
-    ensures { λ r. ⌜ Wrote (now (reply .entry)) at (written (map folded (take n (now (soft .entry))))) (now (reply .exit)) r ⌝ }
-{
-    let mut place = at;
-    let mut i = 0;
-    while i < n {
-        place = wire::write_number(reply, place, wire::fold(soft[i]));
-        i += 1;
-    }
-    place
-}
-
-// The mark of a search.
-fn mark(stopped: bool) -> u32
-    ensures { λ r. ⌜ r ≡ markOf stopped ⌝ }
-{
-    if stopped {
-        return 1;
-    }
-    0
-}
-
-// What a search found, but for the soft values: the mark in one group, nodes walked, label; the place after them.
-fn write_found(reply: &mut [u8], at: usize, stopped: bool, count: u32, label: u32) -> usize
-    requires { ⌜ FoundAsked at count label (length (now reply)) ⌝ }
-    ensures { λ r. ⌜ (r ≤ at + 9)
-        × Wrote (now (reply .entry)) at (written (markOf stopped ∷ count ∷ label ∷ [])) (now (reply .exit)) r ⌝ }
-{
-    let second = wire::write_number(reply, at, mark(stopped));
-    let third = wire::write_number(reply, second, count);
-    wire::write_number(reply, third, label)
 }
 
 // The nodes that vector k, from 0, may walk, M or more: N x D, less those spent, less M for each vector behind it.
@@ -162,8 +111,8 @@ fn answer_one(
     let allowed = allowance(h, step.spent, k);
     let found = search_one(numbers, h, k, allowed, points, keys, soft);
     let walked = found.count;
-    let next = write_found(reply, step.at, found.stopped, walked, found.label);
-    let at = write_soft(reply, next, soft, h.streams * h.width);
+    let next = replies::write_found(reply, step.at, found.stopped, walked, found.label);
+    let at = replies::write_soft(reply, next, soft, h.streams * h.width);
     let spent = step.spent + walked;
     Step { at, spent }
 }
@@ -179,7 +128,7 @@ fn answer_all(numbers: &[i32], h: Header, reply: &mut [u8]) -> usize
     let mut keys = [0u64; search::KEYS];
     let mut soft = [0i32; LABEL_BITS];
     let mut step = Step {
-        at: write_head(reply, h.streams, h.width, h.vectors),
+        at: replies::write_head(reply, h.streams, h.width, h.vectors),
         spent: 0,
     };
     let n = h.vectors;
@@ -191,14 +140,6 @@ fn answer_all(numbers: &[i32], h: Header, reply: &mut [u8]) -> usize
     step.at
 }
 
-// The buffer a reply asks for.
-fn room(m: usize, q: usize, n: usize) -> usize
-    requires { ⌜ (m ≤ mostStreams) × (q ≤ mostWidth) × (n ≤ mostVectors) ⌝ }
-    ensures { λ r. ⌜ r ≡ 7 + n * (9 + 4 * m * q) ⌝ }
-{
-    7 + n * (9 + 4 * m * q)
-}
-
 // The reply to the record that the lent list holds, if the buffer has room for any reply of its size.
 fn reply_to(layout: Layout, numbers: &[i32], reply: &mut [u8]) -> i64
     requires { ⌜ Holds layout (now numbers) ⌝ }
@@ -206,7 +147,7 @@ fn reply_to(layout: Layout, numbers: &[i32], reply: &mut [u8]) -> i64
         × (now (reply .exit) ≡ bufferAfter (byRoom (length (now (reply .entry))) (blockOf layout (now (numbers .entry)))) (now (reply .entry))) ⌝ }
 {
     let h = header_of(layout, numbers);
-    if reply.len() < room(h.streams, h.width, h.vectors) {
+    if reply.len() < replies::room(h.streams, h.width, h.vectors) {
         return refusals::refused(Refusal::Buffer);
     }
     answer_all(numbers, h, reply) as i64
@@ -219,8 +160,8 @@ pub extern "C" fn geckoneedle_detect(record: &[u8], reply: &mut [u8]) -> i64
         × (now (reply .exit) ≡ bufferAfter (outcome (now («record» .entry)) (length (now (reply .entry)))) (now (reply .entry))) ⌝ }
 {
     let mut numbers = [0i32; block::MOST_NUMBERS];
-    match block::read_whole(record, &mut numbers) {
-        Read::Ended(_) => reply_to(block::layout_of(record), &numbers, reply),
+    match reader::read_whole(record, &mut numbers) {
+        Read::Ended(_) => reply_to(reader::layout_of(record), &numbers, reply),
         Read::Refused(refusal) => refusals::refused(refusal),
     }
 }

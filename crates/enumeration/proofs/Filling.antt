@@ -16,13 +16,13 @@ use Rattle.enumeration.specs.Rows.{rowCount, columnCount, keyCount, colu
 use Rattle.enumeration.proofs.Least.{First, first-is, part-first}
 
 -- All keys are filled in, behind them the column with the smallest imaginary part, and behind these that column for each row
-module _ (q partial : ℕ) (axes keys : List ℕ) (column : ℕ) (wide : keyCount q ≤ length keys)
+module _ (q shared : ℕ) (axes keys : List ℕ) (column : ℕ) (wide : keyCount q ≤ length keys)
     (e : column ≡ leastFirst (drop span axes) (columnCount q)) where
   abbrev children : List ℕ
-  children = measuredTo q partial axes (2 ^ q) keys
+  children = measuredTo q shared axes (2 ^ q) keys
 
   abbrev least : List ℕ
-  least = filledFrom (2 ^ q) (columnMetric (partial + imaginaryIn axes column) axes) (rowCount q) children
+  least = filledFrom (2 ^ q) (columnMetric (shared + imaginaryIn axes column) axes) (rowCount q) children
 
   abbrev whole : List ℕ
   whole = filledFrom (2 ^ q + rowCount q) (sameColumn column) (rowCount q) least
@@ -30,12 +30,12 @@ module _ (q partial : ℕ) (axes keys : List ℕ) (column : ℕ) (wide : keyCoun
   im : First (imaginaryIn axes) (columnCount q) column
   im = part-first axes span (columnCount q) column (pow-pos _) e
 
-  in-row : (a : ℕ) → First (rowMetric (partial + realIn axes a) axes) (columnCount q) column
+  in-row : (a : ℕ) → First (rowMetric (shared + realIn axes a) axes) (columnCount q) column
   unfolding rowMetric
   in-row a = record { below = im .below; most = λ i l. omega (arith, im .most i l); earlier = λ i l. omega (arith, im .earlier i l) }
 
   least-length : length least ≡ length keys
-  least-length = from-length (2 ^ q) _ (rowCount q) children ∙ pass-length q partial axes keys (2 ^ q)
+  least-length = from-length (2 ^ q) _ (rowCount q) children ∙ pass-length q shared axes keys (2 ^ q)
 
   whole-length : length whole ≡ length keys
   whole-length = from-length (2 ^ q + rowCount q) _ (rowCount q) least ∙ least-length
@@ -44,25 +44,25 @@ module _ (q partial : ℕ) (axes keys : List ℕ) (column : ℕ) (wide : keyCoun
   before-columns : (s : ℕ) → s < 2 ^ q + rowCount q → getD whole s 0 ≡ getD least s 0
   before-columns s l = from-before (2 ^ q + rowCount q) _ (rowCount q) least s 0 l
 
-  child-at : (s : ℕ) → s < 2 ^ q → getD whole s 0 ≡ childrenOf q partial axes s
+  child-at : (s : ℕ) → s < 2 ^ q → getD whole s 0 ≡ childrenOf q shared axes s
   child-at s l =
       before-columns s (omega arith)
-      ∙ from-before (2 ^ q) _ (rowCount q) children s 0 l ∙ pass-sums q partial axes keys (2 ^ q) s l (omega arith)
+      ∙ from-before (2 ^ q) _ (rowCount q) children s 0 l ∙ pass-sums q shared axes keys (2 ^ q) s l (omega arith)
 
   least-column : (a : ℕ) → a < rowCount q → column ≡ rowColumn q whole a
   least-column a l =
       first-is _ _ _ _ (λ b m. getD-drop (a * columnCount q) whole b 0
-      ∙ child-at (a * columnCount q + b) (omega (arith, row-room q a l)) ∙ sym (row-at q partial axes a b m)) (in-row a)
+      ∙ child-at (a * columnCount q + b) (omega (arith, row-room q a l)) ∙ sym (row-at q shared axes a b m)) (in-row a)
 
   column-at : (a : ℕ) → a < rowCount q → getD whole (2 ^ q + rowCount q + a) 0 ≡ column
   unfolding sameColumn
   column-at a l = from-at (2 ^ q + rowCount q) (sameColumn column) (rowCount q) least a 0 l (omega (arith, least-length))
 
-  in-column : (a : ℕ) → columnMetric (partial + imaginaryIn axes column) axes a ≡ childrenOf q partial axes (a * columnCount q + column)
+  in-column : (a : ℕ) → columnMetric (shared + imaginaryIn axes column) axes a ≡ childrenOf q shared axes (a * columnCount q + column)
   unfolding columnMetric rowMetric
-  in-column a = omega (arith, row-at q partial axes a column (im .below))
+  in-column a = omega (arith, row-at q shared axes a column (im .below))
 
-  whole-placed : Placed q partial axes keys whole
+  whole-placed : Placed q shared axes keys whole
   whole-placed = record {
     size = whole-length;
     each = child-at;
@@ -70,7 +70,7 @@ module _ (q partial : ℕ) (axes keys : List ℕ) (column : ℕ) (wide : keyCoun
       wide = omega (arith, whole-length);
       each = λ a l.
           before-columns (2 ^ q + a) (omega arith)
-          ∙ from-at (2 ^ q) _ (rowCount q) children a 0 l (omega (arith, pass-length q partial axes keys (2 ^ q)))
+          ∙ from-at (2 ^ q) _ (rowCount q) children a 0 l (omega (arith, pass-length q shared axes keys (2 ^ q)))
           ∙ in-column a
           ∙ sym (child-at (a * columnCount q + column) (omega (arith, im .below, row-room q a l)))
           ∙ ap (λ (x : ℕ). getD whole (a * columnCount q + x) 0) (least-column a l);
@@ -78,14 +78,14 @@ module _ (q partial : ℕ) (axes keys : List ℕ) (column : ℕ) (wide : keyCoun
     };
   }
 
-pub placed : {q partial : ℕ} {axes old new : List ℕ} → keyCount q ≤ length old → new ≡ keysIn q partial axes old → Placed q partial axes old new
+pub placed : {q shared : ℕ} {axes old new : List ℕ} → keyCount q ≤ length old → new ≡ keysIn q shared axes old → Placed q shared axes old new
 unfolding keysIn
-placed {q} {partial} {axes} {old} wide e = rw e (whole-placed q partial axes old _ wide refl)
+placed {q} {shared} {axes} {old} wide e = rw e (whole-placed q shared axes old _ wide refl)
 
 -- as the program fills them in
-pub keys-in : (q n c rows partial : ℕ) (axes old before behind new : List ℕ) (column : ℕ) → n ≡ 2 ^ q → c ≡ columnCount q → rows ≡ rowCount q
-    → column ≡ leastFirst (drop span axes) c → before ≡ measuredTo q partial axes (2 ^ q) old
-    → behind ≡ filledFrom n (columnMetric (partial + imaginaryIn axes column) axes) rows before
-    → new ≡ filledFrom (n + rows) (sameColumn column) rows behind → new ≡ keysIn q partial axes old
+pub keys-in : (q n c rows shared : ℕ) (axes old before behind new : List ℕ) (column : ℕ) → n ≡ 2 ^ q → c ≡ columnCount q → rows ≡ rowCount q
+    → column ≡ leastFirst (drop span axes) c → before ≡ measuredTo q shared axes (2 ^ q) old
+    → behind ≡ filledFrom n (columnMetric (shared + imaginaryIn axes column) axes) rows before
+    → new ≡ filledFrom (n + rows) (sameColumn column) rows behind → new ≡ keysIn q shared axes old
 unfolding keysIn
-keys-in q n c rows partial axes old before behind new column en ec er el eb ef e = rw (e, ef, en, er, eb, el, ec) refl
+keys-in q n c rows shared axes old before behind new column en ec er el eb ef e = rw (e, ef, en, er, eb, el, ec) refl

@@ -1,18 +1,18 @@
 -- The next child is taken: its key is overwritten, and its row's smallest key and column with those of the smallest that is left.
-use Prim.Native.Nat.{ℕ, _+_, _-_, _*_, _/_, _%_, _^_, _≤_, _<_}
+use Prim.Native.Nat.{ℕ, _+_, _-_, _*_, _/_, _^_, _≤_, _<_}
 use mathlib.Core.Path.{_≡_, refl, sym, ap, ap₂, _∙_}
 use mathlib.Core.List.{List}
 use mathlib.Core.Logic.{_≢_}
 use native.Mathlib.Decide.{ℕ-discrete}
-use native.Mathlib.Nat.{mul-add-div-right, div-eq-of-lt, mul-add-mod-self-right, mod-eq-of-lt, ne-of-lt, ne-of-gt}
+use native.Mathlib.Nat.{mul-add-div-right, div-eq-of-lt, ne-of-lt, ne-of-gt}
 use native.Mathlib.Omega.{arith}
 use lib.ListN.{length, getD, set, drop, length-set}
 use lib.Seq.{getD-set-same, getD-set-other}
 use lib.Pow.{pow-pos}
 use Rattle.metric.proofs.Grid.{row-room}
 use Rattle.search_spec.specs.Arrays.{leastFirst}
-use Rattle.search_spec.specs.Program.{above}
-use Rattle.search_spec.proofs.Arrays.{Same, least-below}
+use Rattle.search_spec.specs.Program.{tried}
+use Rattle.search_spec.proofs.Arrays.{Same}
 use Rattle.enumeration.specs.Rows.{rowCount, columnCount, rowColumn, rowLeast, keysAfter, RowLeast, LeastRow, Took}
 use Rattle.enumeration.proofs.Rows.{row, column, rows-first, row-column, row-key}
 
@@ -23,7 +23,7 @@ row-of q a b l = omega (arith, mul-add-div-right (pow-pos (q / 2)) a b, div-eq-o
 -- The keys after child b of row a is taken, with the smallest that is left in the row, in its column `least`, behind them, and with that
 -- column
 abbrev overwritten : ℕ → List ℕ → ℕ → ℕ → List ℕ
-overwritten c keys a b = set keys (a * c + b) above
+overwritten c keys a b = set keys (a * c + b) tried
 
 abbrev withLeast : ℕ → ℕ → List ℕ → ℕ → ℕ → List ℕ
 withLeast n c keys a least = set keys (n + a) (getD keys (a * c + least) 0)
@@ -37,7 +37,7 @@ module _ (q : ℕ) (keys : List ℕ) (a b least : ℕ) (h : RowLeast q keys) (la
   mid = overwritten (columnCount q) keys a b
 
   mid-length : length mid ≡ length keys
-  mid-length = length-set keys (a * columnCount q + b) above
+  mid-length = length-set keys (a * columnCount q + b) tried
 
   abbrev low : List ℕ
   low = withLeast (2 ^ q) (columnCount q) mid a least
@@ -65,12 +65,12 @@ module _ (q : ℕ) (keys : List ℕ) (a b least : ℕ) (h : RowLeast q keys) (la
   other-row : (k : ℕ) → k < rowCount q → k ≢ a → (i : ℕ) → i < columnCount q
       → getD keys (k * columnCount q + i) 0 ≡ getD new (k * columnCount q + i) 0
   other-row k lk p i li =
-      sym (getD-set-other keys (a * columnCount q + b) (k * columnCount q + i) above 0
+      sym (getD-set-other keys (a * columnCount q + b) (k * columnCount q + i) tried 0
       (λ x. p (sym (row-of q k i li) ∙ ap (λ (y : ℕ). y / columnCount q) x ∙ row-of q a b lb))) ∙ new-row k i lk li
 
   -- and behind the children's keys nothing by the child that is taken
   behind : (s : ℕ) → 2 ^ q ≤ s → getD mid s 0 ≡ getD keys s 0
-  behind s l = getD-set-other keys (a * columnCount q + b) s above 0 (ne-of-gt (omega (arith, row-room q a la)))
+  behind s l = getD-set-other keys (a * columnCount q + b) s tried 0 (ne-of-gt (omega (arith, row-room q a la)))
 
   new-each : (k : ℕ) → k < rowCount q → getD new (2 ^ q + k) 0 ≡ getD new (rowLeast q new k) 0
   new-each k lk = new-low (2 ^ q + k) (omega arith) ∙ go (ℕ-discrete k a)
@@ -158,22 +158,9 @@ took {q} {old} {new} {symbol} h es en =
     rw (es, en, ← first, ← after-is q old a b lb first) (new-took q old a b _ h la lb refl first)
 
 -- The keys after the next child is taken, but for what stands behind them
-pub took-same : {q : ℕ} {old new : List ℕ} {symbol : ℕ} → Took q old new symbol → Same (2 ^ q) (set old symbol above) new
+pub took-same : {q : ℕ} {old new : List ℕ} {symbol : ℕ} → Took q old new symbol → Same (2 ^ q) (set old symbol tried) new
 took-same {q} {old} {new} {symbol} t = record {
-  wide-a = omega (arith, length-set old symbol above, t .size, t .rows .wide);
+  wide-a = omega (arith, length-set old symbol tried, t .size, t .rows .wide);
   wide-b = omega (arith, t .rows .wide);
   keys = λ i l. sym (t .each i l);
 }
-
--- The two labels of the next child: the row that has the first of the smallest keys, and what is left
-pub least-labels : {q row : ℕ} {keys : List ℕ} → RowLeast q keys → row ≡ leastFirst (drop (2 ^ q) keys) (rowCount q)
-    → let s = leastFirst keys (2 ^ q) in
-    (row * columnCount q ≤ s) × (s / columnCount q ≡ row) × (s % columnCount q ≡ s - row * columnCount q)
-least-labels {q} {row} {keys} h e =
-    let b = rowColumn q keys row in
-    let below : b < columnCount q = least-below _ (columnCount q) (pow-pos (q / 2)) in
-    rw (← rows-first q keys row b h e refl) (
-      omega arith,
-      row-of q row b below,
-      mul-add-mod-self-right row (columnCount q) b ∙ mod-eq-of-lt below ∙ omega arith,
-    )

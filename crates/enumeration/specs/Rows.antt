@@ -6,7 +6,7 @@ use mathlib.Core.List.{List}
 use lib.ListN.{length, getD, set, drop}
 use Rattle.metric.specs.Parts.{span, childMetric, realIn, imaginaryIn, measuredTo, filledFrom}
 use Rattle.search_spec.specs.Arrays.{leastFirst}
-use Rattle.search_spec.specs.Program.{above}
+use Rattle.search_spec.specs.Program.{tried}
 
 -- How many rows there are, and how many children a row has
 abbrev pub rowCount : ℕ → ℕ
@@ -19,7 +19,7 @@ columnCount q = 2 ^ (q / 2)
 abbrev pub keyCount : ℕ → ℕ
 keyCount q = 2 ^ q + 2 * rowCount q
 
--- A child's partial metric from what its imaginary label gives and its real label's part
+-- A child's key from what its imaginary label gives and its real label's part
 unfoldable pub columnMetric : ℕ → List ℕ → ℕ → ℕ
 columnMetric base axes a = base + realIn axes a
 
@@ -44,24 +44,24 @@ pub record RowLeast (q : ℕ) (keys : List ℕ) : Type 0 where
 -- The keys after all children's are filled in, the smallest of each row behind them, and its column: the one with the smallest imaginary part.
 -- The other places are as before
 unfoldable pub keysIn : ℕ → ℕ → List ℕ → List ℕ → List ℕ
-keysIn q partial axes keys =
+keysIn q shared axes keys =
     let column = leastFirst (drop span axes) (columnCount q) in
     filledFrom (2 ^ q + rowCount q) (sameColumn column) (rowCount q)
-    (filledFrom (2 ^ q) (columnMetric (partial + imaginaryIn axes column) axes) (rowCount q) (measuredTo q partial axes (2 ^ q) keys))
+    (filledFrom (2 ^ q) (columnMetric (shared + imaginaryIn axes column) axes) (rowCount q) (measuredTo q shared axes (2 ^ q) keys))
 
--- The keys after the next child is taken, the first of the smallest: its key is the sentinel, and its row's smallest key and column are those
+-- The keys after the next child is taken, the first of the smallest: its key is that of a tried one, and its row's smallest key and column are those
 -- of what is left. The other places are as before
 unfoldable pub keysAfter : ℕ → List ℕ → List ℕ
 keysAfter q keys =
     let symbol = leastFirst keys (2 ^ q) in
     let a = symbol / columnCount q in
-    let rest = set keys symbol above in
+    let rest = set keys symbol tried in
     set (set rest (2 ^ q + a) (getD rest (rowLeast q rest a) 0)) (2 ^ q + rowCount q + a) (rowColumn q rest a)
 
 -- The keys of all children are filled in
-pub record Placed (q partial : ℕ) (axes old new : List ℕ) : Type 0 where
+pub record Placed (q shared : ℕ) (axes old new : List ℕ) : Type 0 where
   pub size : length new ≡ length old
-  pub each : (s : ℕ) → s < 2 ^ q → getD new s 0 ≡ childMetric q partial (realIn axes) (imaginaryIn axes) s
+  pub each : (s : ℕ) → s < 2 ^ q → getD new s 0 ≡ childMetric q shared (realIn axes) (imaginaryIn axes) s
   pub rows : RowLeast q new
 
 -- A row has the first of the smallest keys, and that key is told
@@ -69,9 +69,9 @@ pub record LeastRow (q : ℕ) (keys : List ℕ) (row key : ℕ) : Type 0 where
   pub first : row ≡ leastFirst (drop (2 ^ q) keys) (rowCount q)
   pub least : key ≡ getD keys (leastFirst keys (2 ^ q)) 0
 
--- The next child is taken: the first of the smallest keys, which is then the sentinel
+-- The next child is taken: the first of the smallest keys, which is then that of a tried one
 pub record Took (q : ℕ) (old new : List ℕ) (symbol : ℕ) : Type 0 where
   pub size : length new ≡ length old
   pub first : symbol ≡ leastFirst old (2 ^ q)
-  pub each : (s : ℕ) → s < 2 ^ q → getD new s 0 ≡ getD (set old symbol above) s 0
+  pub each : (s : ℕ) → s < 2 ^ q → getD new s 0 ≡ getD (set old symbol tried) s 0
   pub rows : RowLeast q new

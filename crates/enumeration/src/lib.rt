@@ -1,13 +1,16 @@
 // The keys of a node's children, and the next child: the smallest key, found by the smallest of each row of the constellation, which are
 // kept behind the keys with the column of each.
 use metric::AXES;
-use tree::ABOVE;
+use tree::COST_ROOM;
+use tree::TRIED;
 ghost use mathlib.Core.Path.{_≡_};
 ghost use Prim.Native.Nat.{_+_, _*_, _<_, _≤_, _^_};
 ghost use lib.ListN.{length, drop};
 ghost use Rattle.model.specs.Block.{mostWidth};
+ghost use Rattle.metric.specs.Keys.{costRoom};
 ghost use Rattle.metric.specs.Parts.{span, filledFrom, AllSmall};
 ghost use Rattle.search_spec.specs.Arrays.{leastFirst};
+ghost use Rattle.search_spec.specs.Program.{above};
 ghost use Rattle.enumeration.specs.Rows.{rowCount, keyCount, columnMetric, sameColumn, RowLeast, LeastRow, keysIn, keysAfter};
 
 // A row of the constellation, by its real label, and its smallest key.
@@ -99,16 +102,17 @@ fn fill_least_columns(rows: usize, column: u64, at: usize, keys: &mut [u64])
     fill_row_columns(rows, column, at, keys)
 }
 
-// The keys of a node's children, behind them the smallest of each row, and behind these its column. A row's keys differ by their imaginary
-// parts alone, so the smallest one stands in the same column of each, and differs from another row's by the real part alone.
+// The keys of a node's children, by its partial metric; behind them the smallest of each row, and behind these its column. A row's keys differ
+// by their imaginary parts alone, so the smallest one stands in the same column of each, and differs from another row's by the real part alone.
 pub fn fill(q: usize, partial: u64, axes: &[u64; AXES], keys: &mut [u64])
-    requires { ⌜ (q ≤ mostWidth) × (partial < 2 ^ 62) × (length (now axes) ≡ 2 * span) × AllSmall (now axes)
+    requires { ⌜ (q ≤ mostWidth) × (partial < above) × (length (now axes) ≡ 2 * span) × AllSmall (now axes)
         × (keyCount q ≤ length (now keys)) ⌝ }
-    ensures { λ _. ⌜ now (keys .exit) ≡ keysIn q partial (now (axes .entry)) (now (keys .entry)) ⌝ }
+    ensures { λ _. ⌜ now (keys .exit) ≡ keysIn q (partial * costRoom) (now (axes .entry)) (now (keys .entry)) ⌝ }
 {
-    metric::fill_children(q, partial, axes, keys);
+    let shared = partial * COST_ROOM;
+    metric::fill_children(q, shared, axes, keys);
     let column = least_first(axes, AXES / 2, 1 << (q / 2));
-    let base = partial + axes[AXES / 2 + column];
+    let base = shared + axes[AXES / 2 + column];
     let rows: usize = 1 << (q - q / 2);
     fill_least(rows, base, axes, 1 << q, keys);
     fill_least_columns(rows, column as u64, (1 << q) + rows, keys);
@@ -127,7 +131,7 @@ pub fn least_row(q: usize, keys: &[u64]) -> Row
     }
 }
 
-// Takes the next child, the first of the smallest keys, in its row, where its column is known: its key is then above every metric, and its
+// Takes the next child, the first of the smallest keys, in its row, where its column is known: its key is then above every other, and its
 // row has another smallest one, which is looked for once, for its key and its column.
 pub fn take(q: usize, row: usize, keys: &mut [u64]) -> usize
     requires { ⌜ (q ≤ mostWidth) × RowLeast q (now keys) × (row ≡ leastFirst (drop (2 ^ q) (now keys)) (rowCount q)) ⌝ }
@@ -138,7 +142,7 @@ pub fn take(q: usize, row: usize, keys: &mut [u64]) -> usize
     let rows: usize = 1 << (q - q / 2);
     let start = row * columns;
     let symbol = start + keys[n + rows + row] as usize;
-    keys[symbol] = ABOVE;
+    keys[symbol] = TRIED;
     let column = least_first(keys, start, columns);
     let next = keys[start + column];
     keys[n + row] = next;

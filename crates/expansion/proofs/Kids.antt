@@ -1,5 +1,5 @@
 -- A node's children: by the entries of their stream all of them would be cut, or their keys are filled in.
-use Prim.Native.Nat.{ℕ, _+_, _-_, _*_, _≤_, _<_, _^_}
+use Prim.Native.Nat.{ℕ, _+_, _-_, _*_, _≤_, _<_}
 use mathlib.Core.Path.{_≡_, refl, sym, _∙_, ap}
 use mathlib.Core.Bool.{Bool, true, false, not, _&&_, _||_}
 use mathlib.Core.Logic.{⊎-elim}
@@ -14,11 +14,12 @@ use lib.Seq.{length-take-le}
 use Rattle.model.specs.Block.{BothWithin, mostStreams}
 use Rattle.model.specs.Constellation.{Complex}
 use Rattle.model.proofs.Lists.{or-right, and-cases}
-use Rattle.metric.specs.Parts.{span}
+use Rattle.metric.specs.Keys.{costRoom}
+use Rattle.metric.specs.Parts.{remainderBound, span}
 use Rattle.metric.specs.Rows.{Measured}
-use Rattle.metric.specs.Tables.{axisPlace, tablePart}
-use Rattle.metric.specs.Tables.Axis.{real, imaginary}
-use Rattle.metric.proofs.Bridge.{measured-by}
+use Rattle.axes.specs.Tables.{axisPlace, tablePart}
+use Rattle.axes.specs.Tables.Axis.{real, imaginary}
+use Rattle.axes.proofs.Bridge.{measured-by}
 use Rattle.metric.proofs.Filled.{zeros-small}
 use Rattle.metric.proofs.Remainders.{remains-small}
 use Rattle.bounding.specs.Cut.{OpensAsked, Widest}
@@ -96,7 +97,7 @@ module _ {t : Task} {numbers tables : List ℤ} {n : Node} {best : ℕ} {re im :
 
 module _ (m q : ℕ) (numbers : List ℤ) (n : Node) where
   -- The keys are filled in
-  pub filled-in : {axes old new : List ℕ} → Measured m q numbers (n .level - 1) (n .bits) axes → Placed q (n .partial) axes old new
+  pub filled-in : {axes old new : List ℕ} → Measured m q numbers (n .level - 1) (n .bits) axes → Placed q (n .partial * costRoom) axes old new
       → Filled m q numbers n new
   filled-in measured p = record { each = λ s h. p .each s h ∙ sym (measured .child (n .partial) s h); rows = p .rows }
 
@@ -106,7 +107,7 @@ module _ {t : Task} {points numbers tables : List ℤ} {n : Node} {best : ℕ} {
   abbrev left : Complex
   left = leftOf (t .streams) (t .width) numbers n
 
-  small : BothWithin (2 ^ 29) left
+  small : BothWithin (remainderBound - 1) left
   small = remains-small (a .node .asked .vector) (n .level - 1) (n .bits) (row-inside (a .node) (a .inner))
 
   open-asked : OpenAsked t numbers tables n best (left .re) (left .im) limits

@@ -13,12 +13,12 @@ use Rattle.block.proofs.Places.{rows-count}
 use Rattle.metric.specs.Rows.{VectorAsked}
 use Rattle.search_spec.specs.Program.{mostChildren, above, Ranged}
 use Rattle.search_spec.proofs.Answer.{few-children}
-use Rattle.search_spec.proofs.Bounds.{chosen-by, key-bound, partial-low}
+use Rattle.search_spec.proofs.Bounds.{chosen-by, partial-under as kid-under, partial-low}
 use Rattle.enumeration.specs.Rows.{keyCount}
 use Rattle.hypotheses.specs.Limits.{vectorAt}
 use Rattle.expansion.specs.Expand.{NodeIn, kidOf}
 use Rattle.tree.specs.declared.Node.{Node}
-use Rattle.expansion.proofs.Rows.{ranged, key-by}
+use Rattle.expansion.proofs.Rows.{ranged, partial-by}
 
 -- The symbols behind some streams are few
 pub rest-few : {m q : ℕ} {numbers : List ℤ} (level : ℕ) → VectorAsked m q numbers → (m - level) * q ≤ mostBits
@@ -79,5 +79,5 @@ module _ {m q clip : ℕ} {numbers : List ℤ} {n : Node} (w : NodeIn m q clip n
     -- No child's partial metric is above the sentinel
     pub kid-low : (s : ℕ) → kidOf m q numbers n s ≤ above
     kid-low s =
-        rw (key-by m q numbers (w .asked .vector) clip (n .level - 1) (n .bits) (n .partial) s row-inside)
-        (le-of-lt (lt-of-le-of-lt (key-bound v (n .level) some within in-range (n .partial) (w .bounded) (n .bits) s) (partial-low v in-range (n .level - 1))))
+        rw (partial-by m q numbers (w .asked .vector) clip (n .level - 1) (n .bits) (n .partial) s row-inside)
+        (le-of-lt (kid-under v (n .level) some within in-range (n .partial) (w .bounded) (n .bits) s))

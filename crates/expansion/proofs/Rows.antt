@@ -1,19 +1,21 @@
 -- The vector that a search is asked for is in range, and its keys are those that metric measures: each of its rows is the row that is
 -- read off its numbers.
 use Prim.Native.Nat.{ℕ, suc, _-_, _<_}
-use mathlib.Core.Path.{_≡_, subst}
+use mathlib.Core.Path.{_≡_, sym, ap, ap₂, subst}
 use mathlib.Core.List.{List, [], _∷_}
 use native.Mathlib.Omega.{arith}
 use lib.ListN.{length, getD}
 use lib.IntN.{ℤ}
-use Rattle.model.specs.Metric.{Row}
+use Rattle.model.specs.Constellation.{bitsOf}
+use Rattle.model.specs.Metric.{Row, priorCost}
 use Rattle.model.specs.Block.{RowInRange, RowsInRange}
 use Rattle.block.specs.Contents.{rowsOf}
 use Rattle.block.proofs.Places.{rows-count}
-use Rattle.metric.specs.Rows.{rowAt, childOf as rowKey, VectorAsked}
+use Rattle.metric.specs.Keys.{keyed}
+use Rattle.metric.specs.Rows.{rowAt, childOf, childKey, VectorAsked}
 use Rattle.metric.proofs.Rows.{row-in-range}
 use Rattle.metric.proofs.Link.{row-at}
-use Rattle.search_spec.specs.Program.{Ranged, noRow, chosen, keyOf}
+use Rattle.search_spec.specs.Program.{Ranged, noRow, chosen, partialOf, symbolCost, keyOf}
 use Rattle.hypotheses.specs.Limits.{vectorAt, SearchAsked}
 
 -- Rows are in range where each is
@@ -40,10 +42,16 @@ module _ (m q : ℕ) (numbers : List ℤ) (a : VectorAsked m q numbers) where
       let k : i < m = omega (arith, rows-count m q numbers) in
       rw (rows-count m q numbers, row-is i noRow k) (row-in-range a i k)
 
-  -- The key of a node's child
-  pub key-by : (clip level node d s : ℕ) → level < m → rowKey m q numbers level node d s ≡ keyOf (vectorAt m q clip numbers) level node d s
-  unfolding rowKey keyOf chosen
-  key-by clip level node d s h = rw (rows-count m q numbers, row-is level noRow h)
+  -- The partial metric of a node's child
+  pub partial-by : (clip level node d s : ℕ) → level < m → childOf m q numbers level node d s ≡ partialOf (vectorAt m q clip numbers) level node d s
+  unfolding childOf partialOf chosen
+  partial-by clip level node d s h = rw (rows-count m q numbers, row-is level noRow h)
+
+  -- and its key
+  pub key-by : (clip level node d s : ℕ) → level < m → childKey m q numbers level node d s ≡ keyOf (vectorAt m q clip numbers) level node d s
+  unfolding symbolCost
+  key-by clip level node d s h =
+      ap₂ keyed (partial-by clip level node d s h) (ap (λ (r : Row). priorCost (r .priors) (bitsOf q s)) (sym (row-is level noRow h)))
 
 -- The vector is in range
 pub ranged : (m q clip : ℕ) (numbers : List ℤ) → SearchAsked m q clip numbers → Ranged (vectorAt m q clip numbers)

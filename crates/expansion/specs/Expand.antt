@@ -8,10 +8,11 @@ use lib.Dec.{eqb}
 use lib.ListN.{length, getD, replicate}
 use Rattle.model.specs.Constellation.{Complex, bitsOf}
 use Rattle.constellation.specs.Points.{Points, complexOf}
-use Rattle.metric.specs.Rows.{rowAt, remainderOf, childOf}
+use Rattle.metric.specs.Keys.{costRoom}
+use Rattle.metric.specs.Rows.{rowAt, remainderOf, childOf, childKey}
 use Rattle.metric.specs.Parts.{span, remainderBound}
-use Rattle.metric.specs.Tables.{axisPlace, tablePart, partsIn, Tabled}
-use Rattle.metric.specs.Tables.Axis.{real, imaginary}
+use Rattle.axes.specs.Tables.{axisPlace, tablePart, partsIn, Tabled}
+use Rattle.axes.specs.Tables.Axis.{real, imaginary}
 use Rattle.search_spec.specs.Program.{above, largestPartial, chosen}
 use Rattle.search_spec.specs.Parts.{NodeParts}
 use Rattle.bounding.specs.Cut.{Beyond}
@@ -34,6 +35,10 @@ pub record NodeIn (m q clip : ℕ) (numbers : List ℤ) (n : Node) : Type 0 wher
 -- The partial metric of a node's child with symbol s
 abbrev pub kidOf : ℕ → ℕ → List ℤ → Node → ℕ → ℕ
 kidOf m q numbers n s = childOf m q numbers (n .level - 1) (n .bits) (n .partial) s
+
+-- and its key
+abbrev pub kidKey : ℕ → ℕ → List ℤ → Node → ℕ → ℕ
+kidKey m q numbers n s = childKey m q numbers (n .level - 1) (n .bits) (n .partial) s
 
 -- What asking whether a child of a node may pass asks: `re` and `im` are what remains of y in the children's row
 pub record OpenAsked (t : Task) (numbers tables : List ℤ) (n : Node) (best : ℕ) (re im : ℤ) (limits : List ℕ) : Type 0 where
@@ -89,7 +94,7 @@ pub record ExpandAsked (t : Task) (points numbers tables : List ℤ) (n : Node) 
 
 -- The keys of a node's children are filled in, and behind them the smallest of each row
 pub record Filled (m q : ℕ) (numbers : List ℤ) (n : Node) (keys : List ℕ) : Type 0 where
-  pub each : (s : ℕ) → s < 2 ^ q → getD keys s 0 ≡ kidOf m q numbers n s
+  pub each : (s : ℕ) → s < 2 ^ q → getD keys s 0 ≡ kidKey m q numbers n s
   pub rows : RowLeast q keys
 
 -- What is found of them: whether their keys are
@@ -106,7 +111,7 @@ mayPass m q numbers tables n label best limits =
 unfoldable pub keysFor : ℕ → ℕ → List ℤ → List ℤ → Node → List ℕ → List ℕ
 keysFor m q numbers tables n keys =
     let left = leftOf m q numbers n in
-    keysIn q (n .partial) (partsIn q tables (n .level - 1) (left .re) (left .im) (replicate (2 * span) 0)) keys
+    keysIn q (n .partial * costRoom) (partsIn q tables (n .level - 1) (left .re) (left .im) (replicate (2 * span) 0)) keys
 
 -- The answer, and the whole of the keys: where a child may pass those of all are filled in, else they are as before
 pub record Told (m q : ℕ) (numbers tables : List ℤ) (n : Node) (label best : ℕ) (limits old new : List ℕ) (r : Bool) : Type 0 where

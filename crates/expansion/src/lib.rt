@@ -1,7 +1,7 @@
 // What is found of a node's children before the first of them is tried: all of them would be cut, or their keys are filled in.
+use axes::TABLE;
 use constellation::PLACES;
 use metric::AXES;
-use metric::TABLE;
 use tree::Complex;
 use tree::Kept;
 use tree::Node;
@@ -101,7 +101,7 @@ pub fn expand(
         return false;
     }
     let mut axes = [0u64; AXES];
-    metric::fill_parts(task, row, left, numbers, tables, &mut axes);
+    axes::fill_parts(task, row, left, numbers, tables, &mut axes);
     enumeration::fill(task.width, node.partial, &axes, keys);
     true
 }

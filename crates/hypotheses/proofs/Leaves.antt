@@ -1,11 +1,9 @@
 -- A leaf is taken: its metric lowers the minima of its bits, each on its side; then the limits behind them are renewed.
-use Prim.Native.Nat.{ℕ, _+_, _*_, _<_, _≤_, min}
+use Prim.Native.Nat.{ℕ, _+_, _*_, _<_, min}
 use mathlib.Core.Path.{_≡_, refl, sym, _∙_, ap}
-use mathlib.Core.Bool.{Bool, true, false, cond, _&&_, _||_, Bool·beq, true≢false}
+use mathlib.Core.Bool.{Bool, true, false, cond, Bool·beq}
 use mathlib.Core.List.{List}
 use native.Mathlib.Omega.{arith}
-use lib.Dec.{ltb, eqb}
-use borrow.Author.Tests.{ltb-true, ltb-false, eqb-true}
 use lib.ListN.{getD, set, take, drop, length-set}
 use lib.Seq.{take-set-lt, take-set-le, drop-set-lt, drop-set-add}
 use Rattle.model.specs.Block.{mostBits}
@@ -50,33 +48,16 @@ module _ (n label d : ℕ) (old : List ℕ) where
       → at ≡ minimumPlace bit i → after ≡ set new at (min d (getD new at 0)) → NotedTo n label d (i + 1) old after
   one-noted h before e place lowered = rw (lowered, place) (one-more _ _ h before _ e)
 
--- A leaf that does not come sooner is not below the best metric, and one that does is not above it
-module _ (d node best label : ℕ) where
-  pub not-sooner : sooner d node best label ≡ false → best ≤ d
-  not-sooner e = go (ltb d best) refl e
-    where
-      go : (x : Bool) → ltb d best ≡ x → (x || (eqb d best && ltb node label)) ≡ false → best ≤ d
-      go true f g = absurd (true≢false g)
-      go false f g = ltb-false d best f
-
-  pub is-sooner : sooner d node best label ≡ true → d ≤ best
-  is-sooner e = go (ltb d best) refl (eqb d best) refl e
-    where
-      go : (x : Bool) → ltb d best ≡ x → (y : Bool) → eqb d best ≡ y → (x || (y && ltb node label)) ≡ true → d ≤ best
-      go true f y k g = omega (arith, ltb-true d best f)
-      go false f true k g = omega (arith, eqb-true d best k)
-      go false f false k g = absurd (true≢false (sym g))
-
 -- All bits, and the best label
 pub sides-noted : (v : Vector) {n node d label best : ℕ} (old sides : List ℕ) (label₀ best₀ : ℕ) → n ≡ labelBits v
-    → NotedTo n node d n old sides → label ≡ cond (sooner d node best₀ label₀) node label₀ → best ≡ min d best₀
+    → NotedTo n node d n old sides → label ≡ cond (sooner v d node best₀ label₀) node label₀ → best ≡ min d best₀
     → takenIn label best sides ≡ noted v node d (takenIn label₀ best₀ old)
 unfolding noted
 sides-noted v old sides label₀ best₀ en s el eb = (λ j. takenOf (el j) (eb j) (s .zeros j) (s .ones j)) ∙ rw en
 
 -- and the limits renewed
 pub leaf-noted : {v : Vector} {n node d label best : ℕ} {old sides after : List ℕ} (label₀ best₀ : ℕ) → n ≡ labelBits v
-    → NotedTo n node d n old sides → label ≡ cond (sooner d node best₀ label₀) node label₀ → best ≡ min d best₀
+    → NotedTo n node d n old sides → label ≡ cond (sooner v d node best₀ label₀) node label₀ → best ≡ min d best₀
     → Renewed v label best sides after → takenIn label best after ≡ noted v node d (takenIn label₀ best₀ old)
 leaf-noted {v} {old = old} {sides = sides} label₀ best₀ en s el eb r = r .kept ∙ sides-noted v old sides label₀ best₀ en s el eb
 

@@ -16,9 +16,9 @@ use lib.Signed.{ltZ}
 use Rattle.model.specs.Metric.{Vector, labelBits, priorAt}
 use Rattle.model.specs.Block.{mostStreams, mostWidth}
 use Rattle.metric.specs.Parts.{axisWidth, span, bitOf}
-use Rattle.metric.specs.Tables.{Axis, axisBits}
-use Rattle.metric.specs.Tables.Axis.{real, imaginary}
-use Rattle.metric.proofs.Tables.{axis-few}
+use Rattle.axes.specs.Tables.{Axis, axisBits}
+use Rattle.axes.specs.Tables.Axis.{real, imaginary}
+use Rattle.axes.proofs.Tables.{axis-few}
 use Rattle.search_spec.specs.Program.{Taken, reachOf, reaches}
 use Rattle.search_spec.proofs.Reach.{widest-same}
 use Rattle.bounding.specs.Axes.{WidestLast, ByBits}

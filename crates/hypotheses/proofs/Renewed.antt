@@ -144,13 +144,13 @@ module _ (v : Vector) (m node d : ℕ) (t : Taken) (limits : List ℕ) where
       reachesIn (v .width)
       (filled (cond b (limitAt v (noted v node d t)) (loweredAt (m * v .width) true (bitXor node (t .label)) d limits)) (m * v .width) limits) m
 
-  pub after-other : sooner d node (t .best) (t .label) ≡ false
+  pub after-other : sooner v d node (t .best) (t .label) ≡ false
       → reachesIn (v .width) (filled (loweredAt (m * v .width) true (bitXor node (t .label)) d limits) (m * v .width) limits) m
       ≡ limitsAfter v m node d t limits
   unfolding limitsAfter
   after-other e = ap chosenBy (sym e)
 
-  pub after-best : sooner d node (t .best) (t .label) ≡ true → (kept : Taken) (same : List ℕ) → kept ≡ noted v node d t → same ≡ limits
+  pub after-best : sooner v d node (t .best) (t .label) ≡ true → (kept : Taken) (same : List ℕ) → kept ≡ noted v node d t → same ≡ limits
       → reachesIn (v .width) (filled (limitAt v kept) (m * v .width) same) m ≡ limitsAfter v m node d t limits
   unfolding limitsAfter
   after-best e kept same ek es =

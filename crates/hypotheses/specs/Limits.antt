@@ -106,9 +106,9 @@ unfoldable pub limitsAfter : Vector → ℕ → ℕ → ℕ → Taken → List �
 limitsAfter v m node d t limits =
     let n = m * v .width in
     let lowered = loweredAt n true (bitXor node (t .label)) d limits in
-    reachesIn (v .width) (filled (cond (sooner d node (t .best) (t .label)) (limitAt v (noted v node d t)) lowered) n limits) m
+    reachesIn (v .width) (filled (cond (sooner v d node (t .best) (t .label)) (limitAt v (noted v node d t)) lowered) n limits) m
 
 -- Both parts of the best label's metric are kept with it (document 02, Point 5): those of a leaf that comes before it, else as they were
-pub record PartsAfter (leaf : Node) (old new : Kept) : Type 0 where
-  pub distance-is : new .distance ≡ cond (sooner (leaf .partial) (leaf .bits) (old .best) (old .label)) (leaf .distance) (old .distance)
-  pub cost-is : new .cost ≡ cond (sooner (leaf .partial) (leaf .bits) (old .best) (old .label)) (leaf .cost) (old .cost)
+pub record PartsAfter (v : Vector) (leaf : Node) (old new : Kept) : Type 0 where
+  pub distance-is : new .distance ≡ cond (sooner v (leaf .partial) (leaf .bits) (old .best) (old .label)) (leaf .distance) (old .distance)
+  pub cost-is : new .cost ≡ cond (sooner v (leaf .partial) (leaf .bits) (old .best) (old .label)) (leaf .cost) (old .cost)

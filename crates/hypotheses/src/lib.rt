@@ -10,13 +10,15 @@ ghost use mathlib.Core.Bool.{cond};
 ghost use Prim.Native.Nat.{_*_, _<_, _≤_, _^_, min};
 ghost use lib.IntN.{natAbs};
 ghost use lib.ListN.{length, getD, set, take};
-ghost use mathlib.Core.List.{_++_};
+ghost use mathlib.Core.List.{[], _∷_, _++_};
 ghost use Rattle.model.specs.Metric.{priorAt};
+ghost use Rattle.model.specs.Order.{earlier};
 ghost use Rattle.model.specs.Soft.{softValue};
 ghost use Rattle.model.specs.Block.{mostBits, mostClip};
 ghost use Rattle.metric.specs.Rows.{VectorAsked};
 ghost use Rattle.metric.specs.Parts.{bitOf, filled};
-ghost use Rattle.search_spec.specs.Program.{above, sideOf, valueOf, takenIn, zerosOf, onesOf, limitsOf, keptOf, reachOf, sooner, noted};
+ghost use Rattle.search_spec.specs.Program.{above, sideOf, valueOf, takenIn, zerosOf, onesOf, limitsOf, keptOf, reachOf, costAt, noted};
+ghost use Rattle.search_spec.specs.Parts.{BestParts};
 ghost use Rattle.hypotheses.specs.Limits.{vectorFor, Asked, upOf, limitAt, minimaSize, minimumPlace, NotedTo, NarrowedTo, loweredBoth, LowBeside, Limited, Renewed, limitsAfter, PartsAfter};
 ghost use Rattle.limits.specs.Reach.{reachesIn};
 ghost use Rattle.hypotheses.specs.Values.{MinimaLow};
@@ -52,14 +54,17 @@ fn limit(opposite: u64, reach: i64) -> u64
     if far < opposite { far } else { opposite }
 }
 
-// Does a label of metric d come before the best one?
-fn comes_sooner(d: u64, node: u32, best: u64, label: u32) -> bool
-    ensures { λ r. ⌜ r ≡ sooner d node best label ⌝ }
+// Does a leaf come before the best label? By metric, equal ones by prior cost, and only then by number.
+fn comes_sooner(leaf: Node, kept: Kept) -> bool
+    ensures { λ r. ⌜ r ≡ earlier (leaf .partial ∷ leaf .cost ∷ leaf .bits ∷ []) (kept .best ∷ kept .cost ∷ kept .label ∷ []) ⌝ }
 {
-    if d < best {
-        return true;
+    if leaf.partial != kept.best {
+        return leaf.partial < kept.best;
     }
-    d == best && node < label
+    if leaf.cost != kept.cost {
+        return leaf.cost < kept.cost;
+    }
+    leaf.bits < kept.label
 }
 
 // The least metric at place i, after one of d.
@@ -184,7 +189,8 @@ fn renew_limits(task: Task, numbers: &[i32], best: Node, minima: &mut [u64])
 pub fn take(task: Task, leaf: Node, kept: Kept, numbers: &[i32], minima: &mut [u64]) -> Kept
     requires { ⌜ Asked task (now numbers) × (leaf .partial < above) × (length (now minima) ≡ minimaSize)
         × (leaf .bits < 2 ^ (task .streams * task .width))
-        × Limited (vectorFor task (now numbers)) (takenIn (kept .label) (kept .best) (now minima)) (limitsOf (now minima)) ⌝ }
+        × Limited (vectorFor task (now numbers)) (takenIn (kept .label) (kept .best) (now minima)) (limitsOf (now minima))
+        × (leaf .cost ≡ costAt (vectorFor task (now numbers)) (leaf .bits)) × BestParts (vectorFor task (now numbers)) kept ⌝ }
     ensures { λ r. ⌜ (keptOf (r .count) (r .stopped) (takenIn (r .label) (r .best) (now (minima .exit)))
         ≡ keptOf (kept .count) (kept .stopped)
         (noted (vectorFor task (now (numbers .entry))) (leaf .bits) (leaf .partial)
@@ -193,10 +199,10 @@ pub fn take(task: Task, leaf: Node, kept: Kept, numbers: &[i32], minima: &mut [u
         ≡ limitsAfter (vectorFor task (now (numbers .entry))) (task .streams) (leaf .bits) (leaf .partial)
         (takenIn (kept .label) (kept .best) (now (minima .entry))) (limitsOf (now (minima .entry))))
         × Limited (vectorFor task (now (numbers .entry))) (takenIn (r .label) (r .best) (now (minima .exit)))
-        (limitsOf (now (minima .exit))) × (length (now (minima .exit)) ≡ minimaSize) × PartsAfter leaf kept r ⌝ }
+        (limitsOf (now (minima .exit))) × (length (now (minima .exit)) ≡ minimaSize) × PartsAfter (vectorFor task (now (numbers .entry))) leaf kept r ⌝ }
 {
     let n = task.streams * task.width;
-    if !comes_sooner(leaf.partial, leaf.bits, kept.best, kept.label) {
+    if !comes_sooner(leaf, kept) {
         let opposed = leaf.bits ^ kept.label;
         narrow(n, leaf.bits, opposed, leaf.partial, minima);
         limits::fill(task.streams, task.width, &mut minima[LIMITS..], opposed);

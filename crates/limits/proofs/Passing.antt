@@ -12,9 +12,9 @@ use lib.Bits.{bitXor, xor-shr, xor-mod}
 use lib.Pow.{pow-pos, pow-mono, ones-lt, ones-split, high, low, field, mod-mod-pow}
 use Rattle.model.specs.Block.{mostWidth, mostBits}
 use Rattle.metric.specs.Parts.{span, bitOf}
-use Rattle.metric.specs.Tables.{Axis, axisBits}
-use Rattle.metric.specs.Tables.Axis.{real, imaginary}
-use Rattle.metric.proofs.Tables.{axis-few}
+use Rattle.axes.specs.Tables.{Axis, axisBits}
+use Rattle.axes.specs.Tables.Axis.{real, imaginary}
+use Rattle.axes.proofs.Tables.{axis-few}
 use Rattle.bounding.specs.Axes.{WidestLast, ByBits}
 use Rattle.bounding.specs.Cut.{Widest}
 use Rattle.search_spec.specs.Reach.{widestOf}

@@ -13,10 +13,10 @@ use lib.Seq.{getD-set-same, getD-set-other, set-getD, ext-getD}
 use lib.Pow.{pow-pos, pow-mono, ones-lt}
 use Rattle.model.specs.Block.{mostStreams, mostWidth, mostBits}
 use Rattle.metric.specs.Parts.{filledFrom}
-use Rattle.metric.specs.Tables.{Axis, axisBits}
-use Rattle.metric.specs.Tables.Axis.{real, imaginary}
+use Rattle.axes.specs.Tables.{Axis, axisBits}
+use Rattle.axes.specs.Tables.Axis.{real, imaginary}
 use Rattle.metric.proofs.Filled.{from-length, from-before, from-at, from-same}
-use Rattle.metric.proofs.Tables.{axis-few}
+use Rattle.axes.proofs.Tables.{axis-few}
 use Rattle.search_spec.specs.Reach.{widestOf}
 use Rattle.search_spec.proofs.Reach.{widest-split, widest-same}
 use Rattle.model.proofs.Numbers.{first-half}

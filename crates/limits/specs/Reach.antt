@@ -8,8 +8,8 @@ use mathlib.Core.Logic.{_⊎_}
 use lib.ListN.{length, getD, set, take, drop}
 use Rattle.model.specs.Block.{mostStreams, mostBits}
 use Rattle.metric.specs.Parts.{span, bitOf, filledFrom}
-use Rattle.metric.specs.Tables.{Axis, axisBits}
-use Rattle.metric.specs.Tables.Axis.{real, imaginary}
+use Rattle.axes.specs.Tables.{Axis, axisBits}
+use Rattle.axes.specs.Tables.Axis.{real, imaginary}
 use Rattle.search_spec.specs.Reach.{widestOf}
 
 -- The places of the array: first each bit's limit

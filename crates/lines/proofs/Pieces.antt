@@ -14,7 +14,7 @@ use lib.ListN.{length, getD, set, take, drop}
 use lib.Seq.{drop-cons, drop-length}
 use Rattle.wire.specs.Writing.{Wrote}
 use Rattle.wire.proofs.Writing.{put-nil, put-cons}
-use Rattle.detector.proofs.Steps.{wrote-both, Left, left-more, left-none}
+use Rattle.replies.proofs.Steps.{wrote-both, Left, left-more, left-none}
 use Rattle.lines.specs.Text.{decimalOf, field, blank, minus, valueText, softText}
 
 -- The same bytes

@@ -3,7 +3,7 @@ use mathlib.Core.Path.{_≡_, refl}
 use mathlib.Core.List.{[], _∷_}
 use lib.IntN.{pos, negsuc}
 use Rattle.model.specs.Constellation.{bitsOf, number, symbols, amplitude, point}
-use Rattle.model.specs.Metric.{dot, residual, priorCost, increment, metric, distance, allPriors}
+use Rattle.model.specs.Metric.{dot, residual, priorCost, increment, metric, distance, cost, allPriors}
 use Rattle.model.specs.Order.{earlier}
 use Rattle.model.specs.Soft.{leastOf, those, pick, upFrom}
 use Rattle.model.specs.Walk.{passes, insert, sort, children, walkBelow}
@@ -33,6 +33,6 @@ pub listing-reading : listingOf listingRecord
     ∷ []
 unfolding listingOf readWhole readRecord layoutOf stagesAt vectorKinds numbersAt kindsOf runsOf matrixRuns byNumber numberAt groups aboveDigits
     lastGroup unfolded startsWith blockOf rowsOf rowsFrom complexes upFrom number symbols amplitude point dot residual priorCost increment
-    metric distance allPriors earlier leastOf those pick passes insert sort children walkBelow answer answersFrom blockText headLine linesFrom
+    metric distance cost allPriors earlier leastOf those pick passes insert sort children walkBelow answer answersFrom blockText headLine linesFrom
     totalLine totalCount vectorLine field decimalOf decimals againstIn bitsOf softText valueText
 listing-reading = refl

@@ -14,11 +14,11 @@ use Rattle.block.specs.Reading.{sharePlace, countAt}
 use Rattle.block.specs.Contents.{vectorRows, blockOf}
 use Rattle.block.proofs.Places.{vectors-count, vector-at}
 use Rattle.constellation.specs.Points.{Points}
-use Rattle.search.specs.Limits.{keyPlaces}
+use Rattle.search.specs.Nodes.{keyPlaces}
 use Rattle.detector.specs.Steps.{Heads, answerAt}
 use Rattle.detector.specs.declared.Header.{Header}
 use Rattle.detector.proofs.Held.{few-vectors, spent-none, inside as vector-inside, spent-more}
-use Rattle.detector.proofs.Steps.{wrote-length, Left, left-all, left-more, left-none}
+use Rattle.replies.proofs.Steps.{wrote-length, Left, left-all, left-more, left-none}
 use Rattle.lines.specs.Text.{lineEnd, totalWord, field, headLine, linesFrom, totalLine, blockText, mostLine}
 use Rattle.listing.specs.Steps.{lineAt, NumberedAsked, Numbered, VectorsAsked, VectorsListed}
 use Rattle.listing.specs.declared.Progress.{Progress}

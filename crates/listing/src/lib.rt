@@ -106,8 +106,8 @@ pub fn list(record: &[u8], text: &mut [u8; MOST_TEXT]) -> usize
     ensures { λ r. ⌜ Counts r (now (text .exit)) ⌝ }
 {
     let mut numbers = [0i32; block::MOST_NUMBERS];
-    match block::read_whole(record, &mut numbers) {
-        Read::Ended(_) => write_block(text, block::layout_of(record), &numbers),
+    match reader::read_whole(record, &mut numbers) {
+        Read::Ended(_) => write_block(text, reader::layout_of(record), &numbers),
         Read::Refused(refusal) => {
             lines::write_last(text, 0, b"refused ", refusals::refusal_number(refusal))
         }

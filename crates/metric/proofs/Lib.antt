@@ -1,15 +1,13 @@
 pub mod Filled
-pub mod Costs
 pub mod Shifts
+pub mod Keys
 pub mod Increments
 pub mod Rows
 pub mod Remainders
 pub mod Products
 pub mod Grid
 pub mod Pass
-pub mod Tables
 pub mod Parted
 pub mod Opposite
 pub mod Folds
-pub mod Bridge
 pub mod Link

@@ -16,7 +16,7 @@ use Rattle.model.proofs.Bounds.{largestAmplitude, largestTerm, point-bound, pro
 use Rattle.model.proofs.Numbers.{length-bitsOf, take-bits, drop-bits, low-bits}
 use Rattle.constellation.specs.Points.{complexOf, Points}
 use Rattle.block.specs.Contents.{complexAt}
-use Rattle.metric.specs.Parts.{span}
+use Rattle.metric.specs.Parts.{remainderBound, span}
 use Rattle.metric.specs.Rows.{rowStart, rowAt, remainderOf, VectorAsked, TermAsked}
 use Rattle.metric.proofs.Increments.{less-sum}
 use Rattle.metric.proofs.Rows.{row-end, entry-within, row-in-range}
@@ -129,7 +129,7 @@ term-asked {m} {q} asked made level t symbol h k below =
 
 -- What remains is small
 pub remains-small : {m q : ℕ} {numbers : List ℤ} → VectorAsked m q numbers → (level node : ℕ) → level < m
-    → BothWithin (2 ^ 29) (remains m q numbers level node)
+    → BothWithin (remainderBound - 1) (remains m q numbers level node)
 unfolding remainderOf largestTerm largestAmplitude
 remains-small {m} {q} {numbers} asked level node h =
     let r = row-in-range asked level h in

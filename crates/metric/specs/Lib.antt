@@ -1,4 +1,4 @@
 pub mod Parts
 pub mod Rows
-pub mod Tables
+pub mod Keys
 pub mod Children

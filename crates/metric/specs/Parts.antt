@@ -13,7 +13,7 @@ use Rattle.model.specs.Block.{mostWidth}
 
 -- What remains of y in a row, and a diagonal entry times an amplitude, are below this in magnitude
 abbrev pub remainderBound : ℕ
-remainderBound = 2 ^ 30
+remainderBound = 2 ^ 19
 
 -- The most bits of an axis label, and how many labels such an axis has
 abbrev pub axisWidth : ℕ
@@ -54,7 +54,7 @@ unfoldable pub nearestOf : ℕ → ℕ → ℕ → ℕ
 nearestOf diagonal zero d = d
 nearestOf diagonal (suc w) d = nearestOf diagonal w (apart d (diagonal * 2 ^ w))
 
--- A child's partial metric from its parent's and the parts of its two axis labels
+-- A child's partial metric from its parent's and the parts of its two axis labels, or its key from theirs
 unfoldable pub childMetric : ℕ → ℕ → (ℕ → ℕ) → (ℕ → ℕ) → ℕ → ℕ
 childMetric q partial re im s = partial + (re (s / 2 ^ (q / 2)) + im (s % 2 ^ (q / 2)))
 
@@ -65,7 +65,7 @@ realIn axes a = getD axes a 0
 abbrev pub imaginaryIn : List ℕ → ℕ → ℕ
 imaginaryIn axes b = getD axes (span + b) 0
 
--- A child's partial metric from what its real label gives and its imaginary label's part
+-- A child's key from what its real label gives and its imaginary label's part
 unfoldable pub rowMetric : ℕ → List ℕ → ℕ → ℕ
 rowMetric base axes b = base + imaginaryIn axes b
 
@@ -74,16 +74,16 @@ unfoldable pub filled : {A : Type 0} → (ℕ → A) → ℕ → List A → List
 filled f zero l = l
 filled f (suc n) l = set (filled f n l) n (f n)
 
--- Document 02, Point 3, "in one pass over them": the places of a node's children after the first k of these are measured. `partial` is the
--- node's partial metric, and `axes` has the parts of both axes.
+-- Document 02, Point 3, "in one pass over them": the places of a node's children after the first k of these are measured. `shared` is what
+-- the node gives to the keys of all, and `axes` has the parts of both axes.
 unfoldable pub measuredTo : ℕ → ℕ → List ℕ → ℕ → List ℕ → List ℕ
-measuredTo q partial axes k keys = filled (childMetric q partial (realIn axes) (imaginaryIn axes)) k keys
+measuredTo q shared axes k keys = filled (childMetric q shared (realIn axes) (imaginaryIn axes)) k keys
 
 -- A list with n places from a place on filled by a rule
 unfoldable pub filledFrom : {A : Type 0} → ℕ → (ℕ → A) → ℕ → List A → List A
 filledFrom at f zero l = l
 filledFrom at f (suc n) l = set (filledFrom at f n l) (at + n) (f n)
 
--- Every entry of a list of metrics is small enough to add three of them
+-- Every entry of a list of parts of keys is small enough to add three of them
 abbrev pub AllSmall : List ℕ → Type 0
 AllSmall l = (i : ℕ) → getD l i 0 < 2 ^ 62

@@ -5,12 +5,13 @@ use mathlib.Core.List.{List, map, _++_}
 use lib.IntN.{ℤ, pos, natAbs}
 use lib.ListN.{length, getD}
 use Rattle.model.specs.Constellation.{Complex, Bits, bitsOf, _⊖_}
-use Rattle.model.specs.Metric.{Row, dot, increment}
+use Rattle.model.specs.Metric.{Row, dot, priorCost, increment}
 use Rattle.model.specs.Soft.{upFrom}
 use Rattle.model.specs.Block.{Within, mostStreams, mostWidth, mostBits, mostEntry, mostReceived, mostPrior}
 use Rattle.block.specs.Reading.{vectorSize}
 use Rattle.block.specs.Contents.{complexAt}
 use Rattle.constellation.specs.Points.{pointIn}
+use Rattle.metric.specs.Keys.{costRoom, keyed}
 use Rattle.metric.specs.Parts.{span, part, realIn, imaginaryIn, childMetric, AllSmall}
 
 -- Where row i's numbers of R begin, from 0: the rows before it have 2m - 1, 2m - 3, .. numbers
@@ -42,6 +43,14 @@ childBits m q i node s = bitsOf q s ++ bitsOf ((m - suc i) * q) node
 unfoldable pub childOf : ℕ → ℕ → List ℤ → ℕ → ℕ → ℕ → ℕ → ℕ
 childOf m q numbers i node d s = d + increment q (rowAt m q numbers i) (childBits m q i node s)
 
+-- The prior cost of its symbol
+abbrev pub symbolCostIn : ℕ → ℕ → List ℤ → ℕ → ℕ → ℕ
+symbolCostIn m q numbers i s = priorCost (rowAt m q numbers i .priors) (bitsOf q s)
+
+-- Its key
+abbrev pub childKey : ℕ → ℕ → List ℤ → ℕ → ℕ → ℕ → ℕ → ℕ
+childKey m q numbers i node d s = keyed (childOf m q numbers i node d s) (symbolCostIn m q numbers i s)
+
 -- What measuring asks of a vector's numbers: the sizes and ranges of document 01, "The record"
 pub record VectorAsked (m q : ℕ) (numbers : List ℤ) : Type 0 where
   pub streams : m ≤ mostStreams
@@ -55,11 +64,12 @@ pub record VectorAsked (m q : ℕ) (numbers : List ℤ) : Type 0 where
   pub received : (i : ℕ) → i < 2 * m → Within mostReceived (getD numbers (m * m + i) (pos 0))
   pub priors : (i : ℕ) → i < m * q → Within mostPrior (getD numbers (m * m + 2 * m + i) (pos 0))
 
--- An array has the parts of both axes at a node: whatever its partial metric d, they give each child's
+-- An array has the parts of both axes at a node: whatever its partial metric d, they give each child's key, in which there is room for the cost
 pub record Measured (m q : ℕ) (numbers : List ℤ) (i node : ℕ) (axes : List ℕ) : Type 0 where
   pub size : length axes ≡ 2 * span
   pub small : AllSmall axes
-  pub child : (d s : ℕ) → s < 2 ^ q → childOf m q numbers i node d s ≡ childMetric q d (realIn axes) (imaginaryIn axes) s
+  pub cheap : (s : ℕ) → s < 2 ^ q → symbolCostIn m q numbers i s < costRoom
+  pub child : (d s : ℕ) → s < 2 ^ q → childKey m q numbers i node d s ≡ childMetric q (d * costRoom) (realIn axes) (imaginaryIn axes) s
 
 -- The parts of two complex numbers, an entry of R and a point, that are multiplied
 pub record Factors (a b x y : ℤ) : Type 0 where

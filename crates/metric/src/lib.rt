@@ -1,20 +1,13 @@
-// The partial metrics of a node's children (document 01, "The metric"), measured by their two axes: an axis label's part of the squared
-// distance and of the prior cost is made once for a node, in a lent array of both axes, and shared by a row or a column of the constellation;
-// what of it depends on the vector alone is made once for the vector, in a lent table. Here stand the sizes of both, and what the modules share.
-mod axes;
+// The partial metrics of a node's children (document 01, "The metric"): what remains of y in a row, the distance to the nearest amplitude of an
+// axis, and the one pass that makes the children's keys from what their axis labels add. Here stand the sizes, and what the modules share.
 mod children;
 mod distance;
 mod remaining;
-mod table;
 
-pub use axes::axis_part;
-pub use axes::fill_parts;
 pub use children::fill_children;
 use constellation::PLACES;
 pub use distance::nearest;
 pub use remaining::remainder;
-pub use table::prepare;
-pub use table::symbol_cost;
 ghost use mathlib.Core.Path.{_≡_};
 ghost use Prim.Native.Nat.{_/_, _%_, _<_, _≤_, _^_};
 ghost use lib.IntN.{pos, natAbs, _-ℤ_};
@@ -29,9 +22,6 @@ pub const LABEL_BITS: usize = 24;
 // How many labels the widest axis has.
 const SPAN: usize = 16;
 
-// The places of a vector's table: for each axis of each row a span of products and one of prior costs.
-pub const TABLE: usize = 16 * SPAN;
-
 // The places of the parts of both axes at a node.
 pub const AXES: usize = 2 * SPAN;
 
@@ -44,7 +34,7 @@ pub fn bit_at(n: usize, label: u32, i: usize) -> bool
 }
 
 // One of the points' parts.
-fn amplitude(points: &[i8; PLACES], i: usize) -> i64
+pub fn amplitude(points: &[i8; PLACES], i: usize) -> i64
     requires { ⌜ i < places ⌝ }
     ensures { λ r. ⌜ r ≡ getD (now (points .entry)) i (pos 0) ⌝ }
 {
@@ -68,7 +58,7 @@ pub fn symbol_at(node: u32, q: usize, place: usize) -> usize
 }
 
 // a less b.
-fn less(a: i64, b: i64) -> i64
+pub fn less(a: i64, b: i64) -> i64
     requires { ⌜ (natAbs a < remainderBound) × (natAbs b < remainderBound) ⌝ }
     ensures { λ r. ⌜ r ≡ a -ℤ b ⌝ }
 {

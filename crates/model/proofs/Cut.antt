@@ -10,7 +10,6 @@ use native.Mathlib.Nat.{le-refl, le-trans, le-antisymm, lt-of-le-of-lt}
 use native.Mathlib.Omega.{arith}
 use lib.Dec.{T, le→leb}
 use lib.IntN.{ℤ, pos, negℤ, _+ℤ_, _-ℤ_}
-use lib.ListN.{getD}
 use lib.Signed.{leZ}
 use Rattle.model.specs.Constellation.{Bits, number}
 use Rattle.model.specs.Metric.{Vector, metricOf, bitAt, priorAt, labelBits}
@@ -20,7 +19,7 @@ use Rattle.model.specs.Block.{_∈_}
 use Rattle.integers.proofs.Order.{leZ-add, leZ-trans}
 use Rattle.model.proofs.Clip.{limit-high, limit-low, clip-high, clip-low}
 use Rattle.model.proofs.Lists.{map-upFrom}
-use Rattle.model.proofs.Ranks.{order-head, order-antisym}
+use Rattle.model.proofs.Ranks.{rank-number, order-head, order-antisym}
 use Rattle.model.proofs.Least.{AtMost, rankOf, Lex, pick-in, pick-least, least-le, least-in, Attained}
 
 -- The members of one list are members of another
@@ -117,7 +116,7 @@ module _ (v : Vector) where
         back = pick-least v s (c .within _ (c .best))
 
         go : (pick v s ∈ w) ⊎ Cut w (pick v s) → number (pick v s) ≡ number (pick v w)
-        go (inl h) = ap (λ (k : List ℕ). getD k 1 0) (order-antisym (rankOf v (pick v s)) (rankOf v (pick v w)) back (pick-least v w h))
+        go (inl h) = rank-number (v .width) (v .rows) (pick v s) (pick v w) (order-antisym (rankOf v (pick v s)) (rankOf v (pick v w)) back (pick-least v w h))
         go (inr k) = let b : metricOf v (pick v s) ≤ metricOf v (pick v w) = order-head back in omega (arith, k .worse)
 
     -- A least metric at which the value is at the clip

@@ -12,11 +12,11 @@ use lib.ListN.{length, take, drop, getD, length-take, take-append-drop, replicat
 use lib.Seq.{take-all}
 use lib.IntN.{pos}
 use Rattle.model.specs.Constellation.{Bits, number, symbols}
-use Rattle.model.specs.Metric.{Row, Vector, metricOf, labelBits, bitAt, priorAt}
+use Rattle.model.specs.Metric.{Row, Vector, metricOf, costOf, labelBits, bitAt, priorAt}
 use Rattle.model.specs.Soft.{Least, infinite, finite, leastWith, pick, softValue, softAt, places, report}
 use Rattle.model.specs.Walk.{walk, leaves}
 use Rattle.model.specs.Block.{Block, vectorOf, Answer, walkedNodes, walkedLabels, isStopped, emptySide, answer, total, allowance, answersFrom, answers, totalCount, _∈_, Every, Shaped}
-use Rattle.model.specs.Demand.{LeastMetric, SoftValue, Demand2, LeastOver, Demand2Over, Result, ResultsFrom, Demand3}
+use Rattle.model.specs.Demand.{First, LeastMetric, SoftValue, Demand2, LeastOver, Demand2Over, Result, ResultsFrom, Demand3}
 use Rattle.model.proofs.Lists.{in-symbols, symbols-length, length-upFrom, getD-places}
 use Rattle.model.proofs.Ranks.{order-head}
 use Rattle.model.proofs.Least.{AtMost, Lex, pick-in, pick-least, least-le, least-in, Attained}
@@ -61,24 +61,36 @@ module _ (v : Vector) where
             },
           )
 
+  -- A label that is at or before others is the first of them
+  first-of : {among : Bits → Type 0} {m : Bits} → ((l : Bits) → among l → Lex v m l) → First v among m
+  first-of {among} {m} before = record {
+    least = λ l h. order-head (before l h);
+    cheapest = λ l h e. second l e (before l h);
+    smallest = λ l h e f. third l e f (before l h);
+  }
+    where
+      second : (l : Bits) → metricOf v l ≡ metricOf v m → Lex v m l → costOf v m ≤ costOf v l
+      second l e (inl h) = absurd (omega arith)
+      second l e (inr h) = order-head (h .1)
+
+      third : (l : Bits) → metricOf v l ≡ metricOf v m → costOf v l ≡ costOf v m → Lex v m l → number m ≤ number l
+      third l e f (inl h) = absurd (omega arith)
+      third l e f (inr (h, inl k)) = absurd (omega arith)
+      third l e f (inr (h, inr k)) = order-head (k .1)
+
   -- Demand 2 over all labels
   over-all : Demand2 v (report v (v .clip) all)
   over-all = record {
     label = m;
     whole = whole-label m (pick-in v all (in-all (replicate (labelBits v) false) (length-replicate (labelBits v) false)));
     shown = refl;
-    least = λ l w. order-head (pick-least v all (in-all l w));
-    smallest = λ l w e. second l e (pick-least v all (in-all l w));
+    first = first-of (λ l w. pick-least v all (in-all l w));
     many = length-upFrom (softAt v (v .clip) all) 0 (labelBits v);
     soft = λ i h. value i h (side i true h) (side i false h);
   }
     where
       m : Bits
       m = pick v all
-
-      second : (l : Bits) → metricOf v l ≡ metricOf v m → Lex v m l → number m ≤ number l
-      second l e (inl h) = absurd (omega arith)
-      second l e (inr h) = order-head (h .1)
 
       value : (i : ℕ) → i < labelBits v → (a : ℕ) × (leastWith v i true all ≡ finite a) × LeastMetric v i true a
           → (a : ℕ) × (leastWith v i false all ≡ finite a) × LeastMetric v i false a → SoftValue v i (getD (map (softAt v (v .clip) all) (places v)) i (pos 0))
@@ -106,8 +118,7 @@ module _ (v : Vector) where
     label = pick v ls;
     member = pick-in v ls (some .1);
     shown = refl;
-    least = λ l h. order-head (pick-least v ls h);
-    smallest = λ l h e. second l e (pick-least v ls h);
+    first = first-of (λ l h. pick-least v ls h);
     many = length-upFrom (softAt v empty ls) 0 (labelBits v);
     soft = λ i h. record {
       one = leastWith v i true ls;
@@ -117,10 +128,6 @@ module _ (v : Vector) where
       value = getD-places (softAt v empty ls) (pos 0) (labelBits v) i h;
     };
   }
-    where
-      second : (l : Bits) → metricOf v l ≡ metricOf v (pick v ls) → Lex v (pick v ls) l → number (pick v ls) ≤ number l
-      second l e (inl h) = absurd (omega arith)
-      second l e (inr h) = order-head (h .1)
 
   -- A vector marked complete walked its whole walk
   complete : (n : ℕ) → isStopped v n ≡ false → walkedNodes v n ≡ walk v

@@ -8,15 +8,15 @@ use mathlib.Core.List.{List, [], _∷_, _++_, map, append-cancel-right, List·Me
 use native.Mathlib.Omega.{arith}
 use lib.Dec.{ltb, eqb}
 use borrow.Author.Tests.{ltb-true, ltb-false}
-use lib.ListN.{length, getD}
+use lib.ListN.{length}
 use Rattle.model.specs.Constellation.{Bits, number, symbols}
-use Rattle.model.specs.Metric.{Row, metric}
+use Rattle.model.specs.Metric.{Row, metric, cost}
 use Rattle.model.specs.Order.{earlier, rank, isBefore}
 use Rattle.model.specs.Walk.{insert, sort, children}
 use Rattle.model.specs.Block.{_∈_}
 use Rattle.model.proofs.Lists.{of-insert, of-sort, in-sort, Once, once-map, once-symbols}
 use Rattle.model.proofs.Numbers.{number-injective, siblings}
-use Rattle.model.proofs.Ranks.{earlier-trans, earlier-total}
+use Rattle.model.proofs.Ranks.{rank-number, cons-last, earlier-trans, earlier-total}
 use Rattle.model.proofs.Tree.{children-length}
 
 -- A strict order, total on a list, in the form that sorting needs
@@ -104,7 +104,7 @@ module _ (q : ℕ) (rows : List Row) where
   before-total x y l h = go (earlier-total (rank q rows x) (rank q rows y) refl h)
     where
       go : (rank q rows x ≡ rank q rows y) ⊎ (isBefore q rows y x ≡ true) → (x ≡ y) ⊎ (isBefore q rows y x ≡ true)
-      go (inl e) = inl (number-injective x y l (ap (λ (k : List ℕ). getD k 1 0) e))
+      go (inl e) = inl (number-injective x y l (rank-number q rows x y e))
       go (inr k) = inr k
 
   -- A node's children are tried in rising order
@@ -121,27 +121,17 @@ module _ (q : ℕ) (rows : List Row) where
       len : (x : Bits) → x ∈ kids → length x ≡ q + length node
       len x h = children-length q rows node x (in-sort (isBefore q rows) x kids h)
 
-or-false : (b : Bool) → (b || false) ≡ b
-or-false true = refl
-or-false false = refl
-
--- The one order, of siblings: by rising partial metric, equal ones by the smaller symbol label
+-- The one order, of siblings: by rising partial metric, equal ones by the smaller partial prior cost and then by the smaller symbol label
 pub sibling-order : (q : ℕ) (rows : List Row) (node s t : Bits)
-    → isBefore q rows (s ++ node) (t ++ node) ≡ earlier (metric q rows (s ++ node) ∷ number s ∷ []) (metric q rows (t ++ node) ∷ number t ∷ [])
+    → isBefore q rows (s ++ node) (t ++ node)
+    ≡ earlier (metric q rows (s ++ node) ∷ cost q rows (s ++ node) ∷ number s ∷ []) (metric q rows (t ++ node) ∷ cost q rows (t ++ node) ∷ number t ∷ [])
 unfolding earlier
 sibling-order q rows node s t =
-    ap (λ (b : Bool). ltb x y || (eqb x y && b)) (last (eqb (number (s ++ node)) (number (t ++ node))) ∙ by-symbol ∙ sym (last (eqb (number s) (number t))))
+    ap (λ (last : Bool). ltb (metric q rows (s ++ node)) (metric q rows (t ++ node))
+    || (eqb (metric q rows (s ++ node)) (metric q rows (t ++ node))
+    && (ltb (cost q rows (s ++ node)) (cost q rows (t ++ node)) || (eqb (cost q rows (s ++ node)) (cost q rows (t ++ node)) && last))))
+    (cons-last a b ∙ by-symbol ∙ sym (cons-last (number s) (number t)))
   where
-    x : ℕ
-    x = metric q rows (s ++ node)
-
-    y : ℕ
-    y = metric q rows (t ++ node)
-
-    last : {b : Bool} (e : Bool) → (b || (e && false)) ≡ b
-    last {b} true = or-false b
-    last {b} false = or-false b
-
     a : ℕ
     a = number (s ++ node)
 

@@ -1,14 +1,20 @@
 -- The order of lists of numbers.
 use Prim.Native.Nat.{ℕ, _≤_, _<_}
-use mathlib.Core.Path.{_≡_, refl, sym, _∙_, ap₂}
+use mathlib.Core.Path.{_≡_, refl, sym, _∙_, ap, ap₂}
 use mathlib.Core.Bool.{Bool, true, false, _&&_, _||_, true≢false}
 use mathlib.Core.Logic.{_⊎_, inl, inr, _≢_}
 use mathlib.Core.List.{List, [], _∷_}
 use native.Mathlib.Omega.{arith}
 use lib.Dec.{ltb, eqb}
-use lib.ListN.{length}
-use borrow.Author.Tests.{ltb-true, ltb-false, eqb-true, eqb-false, lt-ltb, le-ltb, eq-eqb}
-use Rattle.model.specs.Order.{earlier}
+use lib.ListN.{length, getD}
+use borrow.Author.Tests.{ltb-true, ltb-false, eqb-true, eqb-false, lt-ltb, le-ltb, eq-eqb, ne-eqb}
+use Rattle.model.specs.Constellation.{Bits, number}
+use Rattle.model.specs.Metric.{Row}
+use Rattle.model.specs.Order.{earlier, rank}
+
+-- Nodes of equal ranks have equal numbers
+pub rank-number : (q : ℕ) (rows : List Row) (x y : Bits) → rank q rows x ≡ rank q rows y → number x ≡ number y
+rank-number q rows x y e = ap (λ (k : List ℕ). getD k 2 0) e
 
 -- A list is at or before another of its length
 abbrev pub AtOrBefore : List ℕ → List ℕ → Type 0
@@ -75,14 +81,31 @@ earlier-false (x ∷ xs) (y ∷ ys) l e = go (ltb x y) (eqb x y) refl refl e (ea
     go false true a b k ih = inr (sym (eqb-true x y b), ih k)
     go false false a b k ih = let n : x ≢ y = eqb-false x y b in inl (omega (arith, ltb-false))
 
+or-false : (b : Bool) → (b || false) ≡ b
+or-false true = refl
+or-false false = refl
+
+and-false : (b : Bool) → (b && false) ≡ false
+and-false true = refl
+and-false false = refl
+
 -- The test is a strict order, total at equal lengths
-cons-first : (x y : ℕ) (xs ys : List ℕ) → x < y → earlier (x ∷ xs) (y ∷ ys) ≡ true
+pub cons-first : (x y : ℕ) (xs ys : List ℕ) → x < y → earlier (x ∷ xs) (y ∷ ys) ≡ true
 unfolding earlier
 cons-first x y xs ys h = rw (lt-ltb x y h)
 
-cons-next : (x y : ℕ) (xs ys : List ℕ) → x ≡ y → earlier (x ∷ xs) (y ∷ ys) ≡ earlier xs ys
+pub cons-next : (x y : ℕ) (xs ys : List ℕ) → x ≡ y → earlier (x ∷ xs) (y ∷ ys) ≡ earlier xs ys
 unfolding earlier
 cons-next x y xs ys h = rw (le-ltb x y (omega arith), eq-eqb x y h)
+
+-- Numbers that differ decide, and so do the last ones
+pub cons-differ : (x y : ℕ) (xs ys : List ℕ) → x ≢ y → earlier (x ∷ xs) (y ∷ ys) ≡ ltb x y
+unfolding earlier
+cons-differ x y xs ys h = rw (ne-eqb x y h) (or-false (ltb x y))
+
+pub cons-last : (x y : ℕ) → earlier (x ∷ []) (y ∷ []) ≡ ltb x y
+unfolding earlier
+cons-last x y = ap (λ (b : Bool). ltb x y || b) (and-false (eqb x y)) ∙ or-false (ltb x y)
 
 cons-cases : (x y : ℕ) (xs ys : List ℕ) → earlier (x ∷ xs) (y ∷ ys) ≡ true → (x < y) ⊎ ((x ≡ y) × (earlier xs ys ≡ true))
 unfolding earlier

@@ -7,7 +7,7 @@ use mathlib.Core.List.{List, [], _∷_, map}
 use lib.IntN.{ℤ, pos, negℤ}
 use lib.ListN.{length, take}
 use Rattle.model.specs.Constellation.{Complex, number, bitsOf, symbols, amplitude, point}
-use Rattle.model.specs.Metric.{Row, dot, residual, priorCost, increment, metric, distance, allPriors}
+use Rattle.model.specs.Metric.{Row, dot, residual, priorCost, increment, metric, distance, cost, allPriors}
 use Rattle.model.specs.Order.{earlier}
 use Rattle.model.specs.Soft.{finite, leastOf, those, pick, upFrom, softValue}
 use Rattle.model.specs.Walk.{passes, insert, sort, children, walkBelow}
@@ -52,7 +52,7 @@ b gives l = record { given = b; expected = l }
 
 -- What the definitions say, and what is stated
 unfoldable pub found : Reading → List Answer
-unfolding number symbols amplitude point dot residual priorCost increment metric allPriors earlier leastOf those pick upFrom passes insert sort children walkBelow answer answersFrom
+unfolding number symbols amplitude point dot residual priorCost increment metric cost allPriors earlier leastOf those pick upFrom passes insert sort children walkBelow answer answersFrom
 found r = answers (r .given)
 
 unfoldable pub stated : Reading → List Answer
@@ -89,6 +89,27 @@ pub starred : map found readings ≡ map stated readings
 unfolding found stated readings
 starred = refl
 
+-- Document 02, Point 6: equal metrics go to the priors
+abbrev pub tied : ℕ → Answer → Reading
+tied d a = single (minus 2) (minus 8) 5 d gives (a ∷ [])
+
+unfoldable pub ties : List Reading
+ties =
+    -- y = -2, prior -8: label 0 is 1 + 8 and label 1 is 9 + 0, which wins, and comes first
+    tied 2 (complete 2 1 (pos 5 ∷ [])) ∷
+    tied 1 (stopped 1 1 (minus 5 ∷ [])) ∷
+    -- Siblings of stream 2 of 1 + 8 and 9 + 0: the second comes first, and a leaf more is walked than by the number, 4 nodes and not 3
+    block 2 1 1 6 ((row 1 (pos 1 & pos 0 ∷ []) (minus 3 & pos 0) (pos 0 ∷ []) ∷ row 1 [] (minus 2 & pos 0) (minus 8 ∷ []) ∷ []) ∷ [])
+    gives (complete 4 0 (pos 1 ∷ pos 1 ∷ []) ∷ []) ∷
+    -- and here one less, 3 nodes and not 4
+    block 2 1 2 6 ((row 2 (pos 1 & minus 1 ∷ []) (pos 0 & minus 3) (minus 2 ∷ []) ∷ row 1 [] (minus 1 & pos 2) (minus 4 ∷ []) ∷ []) ∷ [])
+    gives (complete 3 1 (pos 2 ∷ minus 2 ∷ []) ∷ []) ∷
+    []
+
+pub ties-decided : map found ties ≡ map stated ties
+unfolding found stated ties
+ties-decided = refl
+
 -- Document 02, Point 5: the winning labels' squared distances, one of each block, "separately from" their prior costs
 abbrev pub distanceFirst : Block → List (List Row) → List Answer → ℕ
 distanceFirst b [] found = 0
@@ -109,7 +130,7 @@ stoppedShort =
 abbrev pub priced : Reading
 priced = single (minus 2) (minus 3) 20 2 gives (complete 2 0 (pos 8 ∷ []) ∷ [])
 
-pub distances-apart : map apart (priced ∷ stoppedShort ∷ readings) ≡ 1 ∷ 36 ∷ 1 ∷ 1 ∷ 1 ∷ 1 ∷ 9 ∷ 9 ∷ 1 ∷ 1 ∷ 1 ∷ 1 ∷ []
+pub distances-apart : map apart (tied 2 (complete 2 1 (pos 5 ∷ [])) ∷ priced ∷ stoppedShort ∷ readings) ≡ 9 ∷ 1 ∷ 36 ∷ 1 ∷ 1 ∷ 1 ∷ 1 ∷ 9 ∷ 9 ∷ 1 ∷ 1 ∷ 1 ∷ 1 ∷ []
 unfolding apart readings
 distances-apart = refl
 
@@ -165,13 +186,14 @@ eq31 =
     row 1 [] (pos 0 & pos 0) (pos 0 ∷ []) ∷ []) ∷ [])
     gives (complete 10 1 (minus 3 ∷ pos 0 ∷ minus 2 ∷ []) ∷ [])
 
--- The same trap in two streams of two bits: better and better leaves, where clipping from below at each would show; then a tie between labels decides
+-- The same trap in two streams of two bits: better and better leaves, where clipping from below at each would show; then a tie between labels
+-- goes to the one with less prior cost, 13, and not to the smaller number, 9
 abbrev pub trap : Reading
 trap =
     block 2 2 2 40
     ((row 1 (pos 1 & pos 2 ∷ []) (minus 3 & minus 2) (minus 2 ∷ minus 4 ∷ []) ∷
     row 2 [] (pos 3 & pos 2) (pos 23 ∷ pos 16 ∷ []) ∷ []) ∷ [])
-    gives (complete 10 9 (pos 0 ∷ pos 2 ∷ minus 2 ∷ minus 2 ∷ []) ∷ [])
+    gives (complete 10 13 (pos 0 ∷ pos 2 ∷ minus 2 ∷ minus 2 ∷ []) ∷ [])
 
 -- Blocks of more streams, bits and vectors, with complex R and y
 unfoldable pub blocks : List Reading
@@ -227,7 +249,8 @@ blocks =
     ((row 2 (pos 1 & minus 2 ∷ []) (minus 5 & minus 3) (pos 2 ∷ minus 9 ∷ minus 7 ∷ pos 5 ∷ []) ∷
     row 1 [] (pos 1 & pos 3) (minus 3 ∷ pos 6 ∷ pos 1 ∷ pos 8 ∷ []) ∷ []) ∷ [])
     gives (complete 25 104 (pos 5 ∷ pos 5 ∷ pos 5 ∷ minus 2 ∷ pos 1 ∷ minus 4 ∷ pos 1 ∷ minus 5 ∷ []) ∷ []) ∷
-    -- Three streams: a tie between labels decides; something is left for vectors 2 and 3
+    -- Three streams: a tie between labels goes to the one with less prior cost, 6, and not to the smaller number, 4; something is left for
+    -- vectors 2 and 3
     block 3 1 8 6
     ((row 3 (minus 1 & minus 2 ∷ minus 1 & minus 3 ∷ []) (pos 4 & pos 2) (minus 3 ∷ []) ∷
     row 2 (minus 3 & minus 2 ∷ []) (pos 1 & minus 3) (minus 8 ∷ []) ∷
@@ -238,7 +261,7 @@ blocks =
     (row 1 (pos 2 & minus 1 ∷ pos 2 & minus 1 ∷ []) (pos 3 & minus 1) (pos 7 ∷ []) ∷
     row 1 (pos 3 & minus 2 ∷ []) (minus 4 & minus 1) (pos 6 ∷ []) ∷
     row 1 [] (pos 4 & pos 7) (minus 3 ∷ []) ∷ []) ∷ [])
-    gives (complete 5 4 (minus 8 ∷ pos 8 ∷ pos 8 ∷ []) ∷
+    gives (complete 5 6 (minus 8 ∷ pos 8 ∷ pos 8 ∷ []) ∷
     complete 7 2 (pos 8 ∷ minus 8 ∷ pos 8 ∷ []) ∷
     stopped 6 5 (minus 8 ∷ pos 8 ∷ minus 8 ∷ []) ∷ []) ∷
     -- Four labels of the least metric, the smallest not walked first; equal siblings; partial metrics equal to B and to U
@@ -279,7 +302,7 @@ firstOf b [] = []
 firstOf b (rows ∷ later) = searchAnswer (vectorOf b rows) (b .weak) (search (vectorOf b rows) (allowance b 0 (length later))) ∷ []
 
 unfoldable pub foundFirst : Reading → List Answer
-unfolding number symbols amplitude point dot residual priorCost increment metric allPriors earlier upFrom passes insert sort children start enter searchBelow searchAnswer
+unfolding number symbols amplitude point dot residual priorCost increment metric cost allPriors earlier upFrom passes insert sort children start enter searchBelow searchAnswer
 foundFirst r = firstOf (r .given) (r .given .vectors)
 
 unfoldable pub statedFirst : Reading → List Answer

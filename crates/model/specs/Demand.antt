@@ -8,7 +8,7 @@ use lib.ListN.{length, getD}
 use lib.IntN.{ℤ, pos, _-ℤ_}
 use Rattle.integers.specs.Clip.{clipped}
 use Rattle.model.specs.Constellation.{Bits, number}
-use Rattle.model.specs.Metric.{Row, Vector, metricOf, labelBits, bitAt, priorAt}
+use Rattle.model.specs.Metric.{Row, Vector, metricOf, costOf, labelBits, bitAt, priorAt}
 use Rattle.model.specs.Soft.{Least, infinite, finite, softValue, Report, report}
 use Rattle.model.specs.Walk.{walk, cutChildren, leaves}
 use Rattle.model.specs.Block.{Block, vectorOf, Answer, emptySide, walkedNodes, walkedLabels, totalCount, _∈_}
@@ -30,14 +30,20 @@ pub record SoftValue (v : Vector) (i : ℕ) (z : ℤ) : Type 0 where
   pub with0 : LeastMetric v i false zero
   pub value : z ≡ clipped (v .clip) (pos one -ℤ pos zero -ℤ priorAt v i)
 
+-- Of some labels, the one that demand 2 picks: "the least metric"; a tie "goes to the one with less prior cost, and only then to the smaller
+-- number" (document 02)
+pub record First (v : Vector) (among : Bits → Type 0) (label : Bits) : Type 0 where
+  pub least : (l : Bits) → among l → metricOf v label ≤ metricOf v l
+  pub cheapest : (l : Bits) → among l → metricOf v l ≡ metricOf v label → costOf v label ≤ costOf v l
+  pub smallest : (l : Bits) → among l → metricOf v l ≡ metricOf v label → costOf v l ≡ costOf v label → number label ≤ number l
+
 -- Demand 2, of the label and the soft values of a complete vector: neither walk nor pruning is in it
 pub record Demand2 (v : Vector) (r : Report) : Type 0 where
   pub label : Bits
   pub whole : length label ≡ labelBits v
   pub shown : r .label ≡ number label
-  -- "the label has the least metric of all labels, the smallest number on a tie"
-  pub least : (l : Bits) → length l ≡ labelBits v → metricOf v label ≤ metricOf v l
-  pub smallest : (l : Bits) → length l ≡ labelBits v → metricOf v l ≡ metricOf v label → number label ≤ number l
+  -- "the label has the least metric of all labels"
+  pub first : First v (λ l. length l ≡ labelBits v) label
   -- each bit's soft value
   pub many : length (r .soft) ≡ labelBits v
   pub soft : (i : ℕ) → i < labelBits v → SoftValue v i (getD (r .soft) i (pos 0))
@@ -61,8 +67,7 @@ pub record Demand2Over (v : Vector) (empty : ℕ) (ls : List Bits) (r : Report) 
   pub label : Bits
   pub member : label ∈ ls
   pub shown : r .label ≡ number label
-  pub least : (l : Bits) → l ∈ ls → metricOf v label ≤ metricOf v l
-  pub smallest : (l : Bits) → l ∈ ls → metricOf v l ≡ metricOf v label → number label ≤ number l
+  pub first : First v (λ l. l ∈ ls) label
   pub many : length (r .soft) ≡ labelBits v
   pub soft : (i : ℕ) → i < labelBits v → SoftOver v empty ls i (getD (r .soft) i (pos 0))
 

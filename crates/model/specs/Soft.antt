@@ -40,7 +40,7 @@ leastWith v i x ls = leastOf v (those (hasBit i x) ls)
 abbrev pub better : Vector → Bits → Bits → Bits
 better v a b = cond (isBefore (v .width) (v .rows) b a) b a
 
--- The label that demand 2 picks from a list: "the least metric of all labels, the smallest number on a tie"
+-- The label that demand 2 picks from a list: "the least metric of all labels", of equal ones the first by `rank`
 unfoldable pub pick : Vector → List Bits → Bits
 pick v [] = []
 pick v (l ∷ ls) = foldl (better v) l ls

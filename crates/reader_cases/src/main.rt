@@ -101,7 +101,7 @@ fn run(record: &[u8], numbers: &mut [i32; MOST_NUMBERS])
     requires { ⌜ length (now numbers) ≡ mostNumbers ⌝ }
     ensures { λ _. ⌜ length (now (numbers .exit)) ≡ mostNumbers ⌝ }
 {
-    match block::read_whole(record, numbers) {
+    match reader::read_whole(record, numbers) {
         Read::Ended(_) => {
             let n = count(header(record), numbers);
             print_accepted(n, checksum(numbers, n));

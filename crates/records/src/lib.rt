@@ -240,8 +240,8 @@ pub extern "C" fn geckoneedle_read(record: &[u8], numbers: &mut [i32]) -> i64
         ≡ filling (reading (now («record» .entry)) (length (now (numbers .entry)))) (now (numbers .entry)) ⌝ }
 {
     let mut list = [0i32; block::MOST_NUMBERS];
-    match block::read_whole(record, &mut list) {
-        Read::Ended(_) => hand_over(block::layout_of(record), &list, numbers),
+    match reader::read_whole(record, &mut list) {
+        Read::Ended(_) => hand_over(reader::layout_of(record), &list, numbers),
         Read::Refused(refusal) => refusals::refused(refusal),
     }
 }

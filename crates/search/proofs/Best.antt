@@ -1,13 +1,13 @@
 -- Both parts of the best label's metric stay with it: a leaf that takes its place brings its own.
 use Prim.Native.Nat.{ℕ, _-_, _<_, min}
-use mathlib.Core.Path.{_≡_, refl, sym, _∙_, ap}
+use mathlib.Core.Path.{_≡_, refl, sym, _∙_, ap, subst}
 use mathlib.Core.Bool.{Bool, true, false, cond}
 use mathlib.Core.List.{List}
 use native.Mathlib.Omega.{arith}
 use lib.ListN.{length}
 use Rattle.model.specs.Constellation.{Bits, bitsOf}
 use Rattle.model.specs.Metric.{Row, Vector, distance, cost, labelBits}
-use Rattle.search_spec.specs.Program.{above, chosen, Taken, Kept as Search, keptOf, sooner, noted}
+use Rattle.search_spec.specs.Program.{above, chosen, Taken, Kept as Search, keptOf, costAt, sooner, noted}
 use Rattle.search_spec.specs.Parts.{nodeSum, NodeParts, BestParts}
 use Rattle.search_spec.proofs.Agree.{sooner-min}
 use Rattle.hypotheses.specs.Limits.{PartsAfter}
@@ -30,13 +30,18 @@ leaf-sum : (sum : ℕ → List Row → Bits → ℕ) (v : Vector) (level bits : 
 unfolding chosen
 leaf-sum sum v level bits e = rw e (let all : length (v .rows) - 0 ≡ length (v .rows) = omega arith in rw all)
 
+-- and so is its prior cost
+pub leaf-cost : (v : Vector) {leaf child : Node} → leaf ≡ child → child .level ≡ 0 → NodeParts v child → leaf .cost ≡ costAt v (leaf .bits)
+leaf-cost v {child = child} e bottom p =
+    subst (λ (n : Node). n .cost ≡ costAt v (n .bits)) (sym e) (p .cost-is ∙ leaf-sum cost v (child .level) (child .bits) bottom)
+
 -- A leaf is taken
-module _ (v : Vector) (leaf : Node) (p : NodeParts v leaf) (bottom : leaf .level ≡ 0) (k r : Kept) (after : PartsAfter leaf k r)
+module _ (v : Vector) (leaf : Node) (p : NodeParts v leaf) (bottom : leaf .level ≡ 0) (k r : Kept) (after : PartsAfter v leaf k r)
     (t : Taken) {count : ℕ} {stopped : Bool} {new : Taken}
     (is : keptOf count stopped new ≡ keptOf (k .count) (k .stopped) (noted v (leaf .bits) (leaf .partial) t))
     (eb : t .best ≡ k .best) (el : t .label ≡ k .label) (nb : new .best ≡ r .best) (nl : new .label ≡ r .label) where
   first : Bool
-  first = sooner (leaf .partial) (leaf .bits) (k .best) (k .label)
+  first = sooner v (leaf .partial) (leaf .bits) (k .best) (k .label)
 
   label-is : r .label ≡ cond first (leaf .bits) (k .label)
   unfolding noted first
@@ -59,7 +64,7 @@ module _ (v : Vector) (leaf : Node) (p : NodeParts v leaf) (bottom : leaf .level
           rw l (en ∙ ap (λ (x : Bool). cond x own old) e ∙ eo ∙ leaf-sum sum v (leaf .level) (leaf .bits) bottom)
       go false e =
           let l : r .label ≡ k .label = label-is ∙ ap (λ (x : Bool). cond x (leaf .bits) (k .label)) e in
-          let b : r .best ≡ k .best = best-is ∙ sooner-min (leaf .partial) (leaf .bits) (k .best) (k .label) e in
+          let b : r .best ≡ k .best = best-is ∙ sooner-min v (leaf .partial) (leaf .bits) (k .best) (k .label) false e in
           rw l (en ∙ ap (λ (x : Bool). cond x own old) e ∙ kept (omega arith))
 
   pub best-after : BestParts v k → BestParts v r

@@ -1,7 +1,4 @@
 -- The search over numbers gives the model's answer, and the laws that code's proofs cite.
-pub mod Limits
-pub mod Levels
-pub mod Next
 pub mod Best
 pub mod Search
 pub mod Values

@@ -1,13 +1,13 @@
 -- The soft values that code writes are the model's, and so is what a search of one vector returns.
-use Prim.Native.Nat.{ℕ, suc, _-_, _*_, _≤_, _<_}
+use Prim.Native.Nat.{ℕ, _-_, _*_, _≤_, _<_}
 use mathlib.Core.Path.{_≡_, refl, sym, _∙_, ap, ap₂, subst}
 use mathlib.Core.Bool.{Bool}
 use mathlib.Core.Logic.{⊎-elim}
 use mathlib.Core.List.{List, [], map, _++_}
-use native.Mathlib.Nat.{le-refl, le-trans, mul-le-mul, suc-mul}
+use native.Mathlib.Nat.{le-refl, le-trans, mul-le-mul}
 use native.Mathlib.Omega.{arith}
 use lib.IntN.{ℤ}
-use lib.ListN.{length, take, drop, replicate}
+use lib.ListN.{length, drop, replicate}
 use lib.Pow.{pow-pos}
 use lib.Seq.{drop-length}
 use Rattle.model.specs.Constellation.{Bits, bitsOf}
@@ -24,25 +24,18 @@ use Rattle.search_spec.specs.Parts.{nodeSum, BestParts}
 use Rattle.limits.specs.Reach.{limitsSize, chosenReach}
 use Rattle.enumeration.specs.Rows.{keyCount}
 use Rattle.hypotheses.specs.Limits.{vectorAt, SearchAsked, minimaSize, LimitsAsked}
-use Rattle.search.specs.Limits.{keyPlaces, opposite}
-use Rattle.search.specs.Turn.{NodeAsked}
+use Rattle.search.specs.Nodes.{keyPlaces}
+use Rattle.turn.specs.Limits.{opposite}
+use Rattle.search.specs.Nodes.{NodeAsked}
 use Rattle.hypotheses.specs.Values.{MinimaLow}
 use Rattle.hypotheses.proofs.Limits.{all-same}
 use Rattle.hypotheses.proofs.Values.{bits-are, value-same}
 use Rattle.search.specs.Values.{Answered}
-use Rattle.search_spec.proofs.Arrays.{part-length}
 use Rattle.search_spec.proofs.Answer.{answered, soft-is}
 use Rattle.search_spec.proofs.Bounds.{minima-low, best-found}
 use Rattle.expansion.proofs.Rows.{ranged}
 use Rattle.expansion.proofs.Nodes.{keys-rise}
 use Rattle.tree.specs.declared.Kept.{Kept as Held}
-
--- Behind a node's keys there is room for those of the levels below
-pub room-below : (level q : ℕ) → 0 < level → (keys : List ℕ) → level * keyCount q ≤ length keys
-    → (level - 1) * keyCount q ≤ length (take (length keys - keyCount q) (drop (keyCount q) keys))
-room-below level q some keys h =
-    let up : level ≡ suc (level - 1) = omega arith in
-    omega (arith, ap (λ (l : ℕ). l * keyCount q) up, suc-mul (level - 1) (keyCount q), part-length (keyCount q) keys)
 
 -- The root has no chosen bits
 none-chosen : (m q : ℕ) (limits : List ℕ) (label : ℕ) → 0 ≡ opposite m q limits label m 0

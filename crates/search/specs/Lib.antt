@@ -1,5 +1,4 @@
 -- The search over numbers, against which code is proved.
-pub mod Limits
-pub mod Turn
+pub mod Nodes
 pub mod Values
 pub mod Holds

@@ -1,103 +1,29 @@
-// The search of one vector (document 01, "The walk"): the next child, the pass test, and the walk under an allowance.
+// The search of one vector (document 01, "The walk"): the walk under an allowance, turn by turn, and the vector's answer.
+use axes::TABLE;
 use constellation::PLACES;
-use enumeration::Row;
 use metric::AXES;
-use metric::TABLE;
 use tree::ABOVE;
 use tree::Kept;
 use tree::Node;
 use tree::Task;
+use turn::Turn;
 ghost use mathlib.Core.Path.{_≡_};
 ghost use mathlib.Core.Bool.{true, false};
 ghost use Prim.Native.Nat.{_+_, _*_, _-_, _<_, _≤_, _^_};
 ghost use lib.ListN.{length};
-ghost use Rattle.model.specs.Block.{emptySide, mostStreams, mostWidth, mostBits};
+ghost use Rattle.model.specs.Block.{emptySide, mostStreams, mostWidth};
 ghost use Rattle.constellation.specs.Points.{Points};
-ghost use Rattle.metric.specs.Tables.{Tabled};
+ghost use Rattle.axes.specs.Tables.{Tabled};
 ghost use Rattle.search_spec.specs.Program.{takenIn, limitsOf, keptOf, below};
 ghost use Rattle.search_spec.specs.Parts.{BestParts};
 ghost use Rattle.limits.specs.Reach.{limitsSize};
-ghost use Rattle.enumeration.specs.Rows.{keyCount, LeastRow};
 ghost use Rattle.hypotheses.specs.Limits.{vectorFor, Asked, minimaSize, Limited};
 ghost use Rattle.expansion.specs.Expand.{Filled};
-ghost use Rattle.search.specs.Limits.{keyPlaces, passesAt};
-ghost use Rattle.search.specs.Turn.{NextAsked, NextChild, AdvanceAsked, Advanced, Renewal, NodeAsked};
+ghost use Rattle.search.specs.Nodes.{keyPlaces, Renewal, NodeAsked};
 ghost use Rattle.search.specs.Values.{Answered};
-
-// What a turn over a node's children came to: no child that is left passes; the next child is cut; the allowance is used up; or the child is
-// to be counted, and then left, since all of its own children would be cut, or taken as a leaf, or searched.
-enum Turn {
-    Ended,
-    Cut,
-    Stop,
-    Left,
-    Leaf(Node),
-    Enter(Node),
-}
 
 // The places of the keys of all levels: three of 256 children and two for each of 16 rows, or four of 64 and two for each of 8.
 pub const KEYS: usize = 3 * 288;
-
-// Does a node of partial metric d pass? `level` streams are not chosen yet, and `chosen` is the widest limit of the chosen bits that are
-// opposite to the best label's.
-fn passes(kept: Kept, limits: &[u64], d: u64, level: usize, chosen: u64) -> bool
-    requires { ⌜ (level ≤ mostStreams) × (length (now limits) ≡ limitsSize) ⌝ }
-    ensures { λ r. ⌜ r ≡ passesAt (kept .best) (now (limits .entry)) chosen d level ⌝ }
-{
-    if d <= kept.best {
-        return true;
-    }
-    if d < limits[limits::FIRST + level] {
-        return true;
-    }
-    d < chosen
-}
-
-// The node's bits with one more symbol before them.
-fn with_symbol(symbol: usize, bits: usize, node: u32) -> u32
-    requires { ⌜ (symbol < 2 ^ mostWidth) × (bits ≤ mostBits) × (node < 2 ^ bits) ⌝ }
-    ensures { λ r. ⌜ r ≡ symbol * 2 ^ bits + node ⌝ }
-{
-    ((symbol as u32) << bits) | node
-}
-
-// The next child, the first of the smallest keys, which is then above every metric: squared distance, prior cost and their sum. Its chosen bits
-// are those of its own symbol and its parent's.
-fn next_child(
-    task: Task,
-    node: Node,
-    next: Row,
-    label: u32,
-    tables: &[i32; TABLE],
-    limits: &[u64],
-    keys: &mut [u64],
-) -> Node
-    requires { ⌜ NextAsked (task .streams) (task .width) node (now tables) (now limits) (now keys)
-        × LeastRow (task .width) (now keys) (next .row) (next .key) ⌝ }
-    ensures { λ r. ⌜ NextChild (task .streams) (task .width) node label (now (tables .entry)) (now (limits .entry)) (now (keys .entry))
-        (now (keys .exit)) r ⌝ }
-{
-    let q = task.width;
-    let after = (task.streams - node.level) * q;
-    let symbol = enumeration::take(q, next.row, keys);
-    let own = metric::symbol_at(label, q, after);
-    let level = node.level - 1;
-    let columns: usize = 1 << (q / 2);
-    let imaginary = symbol - next.row * columns;
-    let before = node.cost;
-    let cost = before + metric::symbol_cost(tables, level, next.row, imaginary);
-    Node {
-        level,
-        bits: with_symbol(symbol, after, node.bits),
-        partial: next.key,
-        distance: next.key - cost,
-        cost,
-        chosen: integers::larger(
-            limits::stream_reach(q, limits, level, symbol ^ own),
-            node.chosen,
-        ),
-    }
-}
 
 // One node more is counted.
 fn counted(kept: Kept) -> Kept
@@ -128,60 +54,6 @@ fn halted(kept: Kept) -> Kept
         distance: kept.distance,
         cost: kept.cost,
     }
-}
-
-// One turn over a node's children. They end where the node itself would not pass with the smallest key that is left; else the child with
-// that key is taken, cut or counted, and its own children are looked at; their keys stand behind the node's.
-fn advance(
-    task: Task,
-    node: Node,
-    kept: Kept,
-    points: &[i8; PLACES],
-    numbers: &[i32],
-    tables: &[i32; TABLE],
-    limits: &[u64],
-    keys: &mut [u64],
-) -> Turn
-    requires { ⌜ AdvanceAsked task (now points) (now numbers) (now tables) node kept (now limits) (now keys) ⌝ }
-    ensures { λ r. ⌜ Advanced task (now (numbers .entry)) (now (tables .entry)) node kept (now (limits .entry)) (now (keys .entry))
-        (now (keys .exit)) r ⌝ }
-{
-    let next = enumeration::least_row(task.width, keys);
-    if !passes(kept, limits, next.key, node.level, node.chosen) {
-        return Turn::Ended;
-    }
-    let child = next_child(task, node, next, kept.label, tables, limits, keys);
-    if !passes(kept, limits, child.partial, child.level, child.chosen) {
-        return Turn::Cut;
-    }
-    if task.allowance <= kept.count {
-        return Turn::Stop;
-    }
-    if child.level == 0 {
-        return Turn::Leaf(child);
-    }
-    let places = key_places(task.width);
-    if !expansion::expand(
-        task,
-        child,
-        kept,
-        points,
-        numbers,
-        tables,
-        limits,
-        &mut keys[places..],
-    ) {
-        return Turn::Left;
-    }
-    Turn::Enter(child)
-}
-
-// The places of a node's keys: its children's, and the smallest of each row with its column.
-fn key_places(q: usize) -> usize
-    requires { ⌜ q ≤ mostWidth ⌝ }
-    ensures { λ r. ⌜ r ≡ keyCount q ⌝ }
-{
-    (1 << q) + 2 * (1 << (q - q / 2))
 }
 
 // A node after leaves were walked below it: the limits and the best label may be others.
@@ -230,7 +102,7 @@ fn walk(
         (limitsOf (now (minima .exit))) × (length (now (minima .exit)) ≡ minimaSize)
         × BestParts (vectorFor task (now (numbers .entry))) r ⌝ }
 {
-    let places = key_places(task.width);
+    let places = turn::key_places(task.width);
     let n: usize = 1 << task.width;
     let mut k = kept;
     let mut parent = node;
@@ -238,7 +110,7 @@ fn walk(
     // Not `<`: the compiler would turn that into a shift at every turn.
     while tried != n {
         let limits = &minima[hypotheses::LIMITS..];
-        match advance(task, parent, k, points, numbers, tables, limits, keys) {
+        match turn::advance(task, parent, k, points, numbers, tables, limits, keys) {
             Turn::Ended => return k,
             Turn::Stop => return halted(k),
             Turn::Left => {
@@ -289,7 +161,7 @@ fn begin(
     let row = root.level - 1;
     let left = metric::remainder(points, numbers, task.streams, task.width, row, root.bits);
     let mut axes = [0u64; AXES];
-    metric::fill_parts(task, row, left, numbers, tables, &mut axes);
+    axes::fill_parts(task, row, left, numbers, tables, &mut axes);
     enumeration::fill(task.width, root.partial, &axes, keys);
     walk(task, root, kept, points, numbers, tables, minima, keys)
 }
@@ -325,7 +197,7 @@ pub fn search_vector(
         (now (soft .entry)) (now (soft .exit)) ⌝ }
 {
     let mut tables = [0i32; TABLE];
-    metric::prepare(task, points, numbers, &mut tables);
+    axes::prepare(task, points, numbers, &mut tables);
     // Before the first leaf every minimum is infinite, and so is B: everything passes, whatever the limits are.
     let mut minima = [ABOVE; hypotheses::MINIMA];
     let start = Kept {

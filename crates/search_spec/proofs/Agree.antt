@@ -3,24 +3,26 @@
 use Prim.Native.Nat.{ℕ, suc, _+_, _-_, _/_, _%_, _^_, _≤_, _<_, min}
 use mathlib.Core.Path.{_≡_, refl, sym, _∙_, ap, ap₂, subst}
 use mathlib.Core.Bool.{Bool, true, false, not, cond, _&&_, _||_, Bool·beq}
-use mathlib.Core.List.{List, map}
+use mathlib.Core.List.{List, [], _∷_, map}
+use native.Mathlib.Decide.{decLt}
 use native.Mathlib.Omega.{arith}
 use lib.Dec.{leb, ltb, eqb}
 use borrow.Author.Tests.{ltb-true, ltb-false, leb-true, leb-false, eqb-true, lt-ltb, le-leb, eq-eqb, ne-eqb}
 use lib.ListN.{length, getD, replicate, getD-replicate, length-replicate}
 use lib.IntN.{ℤ, pos, negsuc}
 use lib.Signed.{ltZ}
-use Rattle.model.specs.Constellation.{Bits, number}
-use Rattle.model.specs.Metric.{Vector, metricOf, labelBits, bitAt, priorAt}
+use Rattle.model.specs.Constellation.{Bits, number, bitsOf}
+use Rattle.model.specs.Metric.{Vector, metricOf, costOf, labelBits, bitAt, priorAt}
 use Rattle.model.specs.Order.{earlier, isBefore}
 use Rattle.model.specs.Soft.{Least, infinite, finite, lesser, hasBit, places}
 use Rattle.model.specs.Walk.{clipLimit, smaller, limit, isOpen, passes}
 use Rattle.model.specs.Search.{Search, start, oppositeOf, admits, bestAfter, updated, enter, stop}
 use Rattle.model.proofs.Lists.{any-upFrom, getD-places}
-use Rattle.model.proofs.Numbers.{bit-of-number}
+use Rattle.model.proofs.Numbers.{bit-of-number, bitsOf-number}
+use Rattle.model.proofs.Ranks.{order-head, earlier-true, earlier-false, cons-first}
 use Rattle.search_spec.specs.Program.{above, sideOf, Taken, Kept, takenOf, keptOf, fresh}
 use Rattle.metric.specs.Parts.{bitOf}
-use Rattle.search_spec.specs.Program.{opens, reachOf, reaches, lets, passing, loweredAt, lowered, sooner, noted}
+use Rattle.search_spec.specs.Program.{opens, reachOf, reaches, lets, passing, loweredAt, lowered, costAt, sooner, noted}
 use Rattle.metric.proofs.Filled.{filled-at, filled-length}
 
 -- d is below a least metric
@@ -67,14 +69,18 @@ side-lesser d u h =
     side-finite (min d u) (λ e. omega arith) ∙ side-ind (λ w l. finite (min d w) ≡ lesser d l) (ap finite (omega arith)) (λ w. refl) u
 
 -- The smaller metric is that of the label that comes before
-pub sooner-min : (d node best label : ℕ) {t : Bool} → sooner d node best label ≡ t → min d best ≡ cond t d best
-sooner-min d node best label e = go (ltb d best) (eqb d best) (ltb node label) refl refl ∙ ap (λ (x : Bool). cond x d best) e
+pub sooner-min : (v : Vector) (d node best label : ℕ) (t : Bool) → sooner v d node best label ≡ t → min d best ≡ cond t d best
+sooner-min v d node best label true e = let h : d ≤ best = order-head (earlier-true _ _ e) in omega arith
+sooner-min v d node best label false e = let h : best ≤ d = order-head (earlier-false _ _ refl e) in omega arith
+
+-- The order by the prior costs that are kept: before the first leaf none is looked at
+pub sooner-kept : (v : Vector) (d c node best cost label : ℕ) → d < above → c ≡ costAt v node → (best < above → cost ≡ costAt v label)
+    → earlier (d ∷ c ∷ node ∷ []) (best ∷ cost ∷ label ∷ []) ≡ sooner v d node best label
+sooner-kept v d c node best cost label low own kept = go (decLt best above)
   where
-    go : (a b c : Bool) → ltb d best ≡ a → eqb d best ≡ b → min d best ≡ cond (a || (b && c)) d best
-    go true b c f g = omega (arith, ltb-true d best f)
-    go false true true f g = omega (arith, eqb-true d best g)
-    go false true false f g = omega (arith, eqb-true d best g)
-    go false false c f g = omega (arith, ltb-false d best f)
+    go : Dec (best < above) → earlier (d ∷ c ∷ node ∷ []) (best ∷ cost ∷ label ∷ []) ≡ sooner v d node best label
+    go (yes h) = ap₂ (λ (x y : ℕ). earlier (d ∷ x ∷ node ∷ []) (best ∷ y ∷ label ∷ [])) own (kept h)
+    go (no h) = cons-first d best _ _ (omega arith) ∙ sym (cons-first d best _ _ (omega arith))
 
 -- A bit of a label's number
 pub bit-is : (n : ℕ) (l : Bits) (i : ℕ) → length l ≡ n → i < n → bitOf n (number l) i ≡ bitAt i l
@@ -87,6 +93,10 @@ bit-is n l i e h = ap (λ (k : ℕ). eqb k 1) digit ∙ one (bitAt i l)
     one : (b : Bool) → eqb (cond b 1 0) 1 ≡ b
     one true = refl
     one false = refl
+
+-- A label's prior cost by its number
+pub cost-is : (v : Vector) (l : Bits) → length l ≡ labelBits v → costAt v (number l) ≡ costOf v l
+cost-is v l e = ap (costOf v) (ap (λ (n : ℕ). bitsOf n (number l)) (sym e) ∙ bitsOf-number l)
 
 -- A bit of a node's number, by its place in the label, of which the first `free` bits are not chosen
 pub node-bit : (n free : ℕ) (l : Bits) (i : ℕ) → length l + free ≡ n → free ≤ i → i < n → bitOf n (number l) i ≡ bitAt (i - free) l
@@ -214,37 +224,35 @@ module _ (v : Vector) where
           lesser-side true u = side-lesser (metricOf v child) u low
           lesser-side false u = refl
 
+      -- The leaf comes before m, where B is w
+      first : ℕ → Bool
+      first w = sooner v d c w (k .taken .label)
+
       -- m and B after it, from B before it
       record Chosen (w : ℕ) (l : Least) : Type 0 where
-        label : cond (sooner d c w (k .taken .label)) c (k .taken .label) ≡ number (bestAfter v l (s .best) child)
+        label : cond (first w) c (k .taken .label) ≡ number (bestAfter v l (s .best) child)
         best : Best (lesser d l) (bestAfter v l (s .best) child)
 
       chosen-none : Chosen above infinite
-      chosen-none = record { label = rw (lt-ltb d above low); best = (leaf, refl) }
+      unfolding first
+      chosen-none = record { label = rw (cons-first d above (costAt v c ∷ c ∷ []) (costAt v (k .taken .label) ∷ k .taken .label ∷ []) low); best = (leaf, refl) }
 
       chosen-some : (b : ℕ) → Best (finite b) (s .best) → Chosen b (finite b)
-      unfolding earlier
-      chosen-some b f = go (sooner d c b (k .taken .label)) refl
+      unfolding first
+      chosen-some b f = go (first b) refl
         where
-          last : (x y : Bool) → (x || (y && false)) ≡ x
-          last true y = refl
-          last false true = refl
-          last false false = refl
+          other : costOf v (s .best) ≡ costAt v (k .taken .label)
+          other = sym (ap (costAt v) (g .label) ∙ cost-is v (s .best) (f .0))
 
-          m : ℕ
-          m = number (s .best)
+          test : isBefore (v .width) (v .rows) child (s .best) ≡ first b
+          test = λ j. earlier (d ∷ sym (cost-is v child leaf) j ∷ c ∷ []) (f .1 j ∷ other j ∷ sym (g .label) j ∷ [])
 
-          test : isBefore (v .width) (v .rows) child (s .best) ≡ sooner d c b (k .taken .label)
-          test =
-              ap (λ (x : ℕ). ltb d x || (eqb d x && (ltb c m || (eqb c m && false)))) (f .1)
-              ∙ ap (λ (x : Bool). ltb d b || (eqb d b && x)) (last (ltb c m) (eqb c m)) ∙ ap (sooner d c b) (sym (g .label))
-
-          go : (t : Bool) → sooner d c b (k .taken .label) ≡ t → Chosen b (finite b)
+          go : (t : Bool) → first b ≡ t → Chosen b (finite b)
           go true e =
-              let same : min d b ≡ d = sooner-min d c b (k .taken .label) e in
+              let same : min d b ≡ d = sooner-min v d c b (k .taken .label) true e in
               record { label = rw (e, test ∙ e); best = rw (test ∙ e) (leaf, sym same) }
           go false e =
-              let same : min d b ≡ b = sooner-min d c b (k .taken .label) e in
+              let same : min d b ≡ b = sooner-min v d c b (k .taken .label) false e in
               record { label = rw (e, test ∙ e) (g .label); best = rw (test ∙ e) (f .0, f .1 ∙ sym same) }
 
       chosen-is : Chosen (k .taken .best) (s .least)
@@ -254,7 +262,7 @@ module _ (v : Vector) where
 
       -- It is counted and taken
       pub noted-is : Agrees (enter v s child) (keptOf (k .count + 1) (k .stopped) (noted v (number child) (metricOf v child) (k .taken)))
-      unfolding enter noted
+      unfolding enter noted first
       noted-is = rw (eq-eqb (length child) (labelBits v) leaf) (record {
         count = omega (arith, g .count);
         stopped = g .stopped;

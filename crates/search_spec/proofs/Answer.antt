@@ -1,24 +1,26 @@
 -- What the program answers is document 01's answer: the searches agree (Below), and so do the answers that are read off them. A vector
 -- in range has metrics below the sentinel; the room for the minima is any that holds the label's bits.
-use Prim.Native.Nat.{ℕ, _*_, _^_, _≤_, _<_}
+use Prim.Native.Nat.{ℕ, zero, suc, _*_, _^_, _≤_, _<_}
 use mathlib.Core.Path.{_≡_, sym, _∙_, ap, ap₂, subst}
 use mathlib.Core.Bool.{Bool}
 use mathlib.Core.List.{List, [], _∷_, _++_, map, reverseAux}
-use native.Mathlib.Nat.{le-refl}
+use native.Mathlib.Nat.{le-refl, mul-le-mul}
 use native.Mathlib.Omega.{arith}
 use lib.IntN.{ℤ}
-use lib.ListN.{length, drop, length-reverseAux}
+use lib.ListN.{length, getD, drop, length-reverseAux}
 use lib.Pow.{pow-mono}
-use Rattle.model.specs.Constellation.{Bits}
+use Rattle.model.specs.Constellation.{Bits, bitsOf}
 use Rattle.model.specs.Metric.{Row, Vector, metric, labelBits, priorAt}
 use Rattle.model.specs.Soft.{places, softValue}
-use Rattle.model.specs.Block.{Answer, emptySide, answer, RowsInRange, mostStreams, mostWidth, mostBits}
+use Rattle.model.specs.Block.{Answer, emptySide, answer, Every, Within, RowsInRange, mostStreams, mostWidth, mostBits, mostPrior}
 use Rattle.model.specs.Search.{search, valueAt, searchAnswer}
 use Rattle.model.proofs.Lists.{map-upFrom}
+use Rattle.model.proofs.Numbers.{length-bitsOf}
 use Rattle.model.proofs.Search.{search-answers}
-use Rattle.model.proofs.Bounds.{metric-bound, largestMetric, largest-rises, metric-largest}
+use Rattle.model.proofs.Bounds.{prior-cost-bound, metric-bound, largestMetric, largest-rises, metric-largest}
+use Rattle.metric.specs.Keys.{costRoom}
 use Rattle.metric.specs.Parts.{filled}
-use Rattle.search_spec.specs.Program.{above, mostChildren, Ranged}
+use Rattle.search_spec.specs.Program.{above, symbolCost, noRow, mostChildren, Ranged}
 use Rattle.search_spec.specs.Program.{Taken, Kept, keptOf, fresh, below, valueOf, answerOf, replied}
 use Rattle.search_spec.proofs.Arrays.{filled-is}
 use Rattle.search_spec.proofs.Agree.{Agrees}
@@ -50,6 +52,12 @@ last-rows : (q : ℕ) (todo done : List Row) → RowsInRange q (reverseAux todo 
 last-rows q [] done h = h
 last-rows q (r ∷ todo) done h = last-rows q todo (r ∷ done) h .1
 
+-- The priors of a row are in range, and so are those of a row that is not there
+priors-within : (q : ℕ) (rows : List Row) (i : ℕ) → RowsInRange q rows → Every (Within mostPrior) (getD rows i noRow .priors)
+priors-within q [] i h = tt
+priors-within q (r ∷ rows) zero h = h .0 .priors
+priors-within q (r ∷ rows) (suc i) h = priors-within q rows i (h .1)
+
 module _ (v : Vector) (r : Ranged v) where
   -- The largest metric of some of its rows is below the sentinel
   pub rows-low : (n : ℕ) → n ≤ length (v .rows) → largestMetric (v .width) n < above
@@ -71,10 +79,21 @@ module _ (v : Vector) (r : Ranged v) where
       let ranged = last-rows (v .width) todo done (subst (RowsInRange (v .width)) (sym e) (r .rows)) in
       omega (arith, rows-low (length done) few, metric-bound (v .width) done ranged bits)
 
+  -- Every symbol's prior cost has room in a key
+  pub symbol-cheap : (level s : ℕ) → symbolCost v level s < costRoom
+  unfolding symbolCost
+  symbol-cheap level s =
+      omega (
+        arith,
+        mul-le-mul (r .bits) (le-refl mostPrior),
+        ap (λ (n : ℕ). n * mostPrior) (length-bitsOf (v .width) s),
+        prior-cost-bound (getD (v .rows) level noRow .priors) (bitsOf (v .width) s) (priors-within (v .width) (v .rows) level (r .rows)),
+      )
+
   -- What the program keeps is what the model's search keeps
   pub agrees-in : (allowance room : ℕ) → labelBits v ≤ room
       → Agrees v (search v allowance) (below v allowance (length (v .rows)) 0 0 (fresh room))
-  agrees-in allowance room h = search-agrees v allowance metric-low (r .bit) room h (r .stream)
+  agrees-in allowance room h = search-agrees v allowance metric-low symbol-cheap (r .bit) room h (r .stream)
 
   -- so its answer is the model's, whatever W is and under any allowance
   pub replied-is : (weak allowance room : ℕ) → labelBits v ≤ room

@@ -8,17 +8,19 @@ use native.Mathlib.Nat.{le-of-eq, add-comm, zero-add, add-zero, suc-mul, add-mul
 use native.Mathlib.Omega.{arith}
 use lib.Dec.{ltb}
 use lib.ListN.{length, getD, set, length-append, length-reverseAux}
-use lib.Seq.{drop-at}
+use lib.Seq.{take-at, drop-at}
 use Rattle.model.specs.Constellation.{Bits, number, bitsOf}
-use Rattle.model.specs.Metric.{Row, Vector, increment, metric, labelBits}
+use Rattle.model.specs.Metric.{Row, Vector, priorCost, increment, metric, cost, labelBits}
 use Rattle.model.specs.Walk.{children}
 use Rattle.model.specs.Search.{Search, start, admits, enter, stop, attempt, searchBelow, search}
 use Rattle.model.proofs.Lists.{length-upFrom, getD-places}
 use Rattle.model.proofs.Numbers.{number-append, number-bitsOf, bitsOf-number, length-bitsOf}
 use Rattle.model.proofs.Tree.{children-count}
 use Rattle.search_spec.specs.Arrays.{leastFirst}
-use Rattle.search_spec.specs.Program.{above, Taken, Kept, keptOf, fresh, passing}
-use Rattle.search_spec.specs.Program.{noRow, chosen, keyOf, childIn, keysOf, onward, siblings, testOf, below}
+use Rattle.metric.specs.Keys.{costRoom, keyed, metricIn}
+use Rattle.search_spec.specs.Program.{above, tried, Taken, Kept, keptOf, fresh, passing}
+use Rattle.search_spec.specs.Program.{noRow, chosen, partialOf, symbolCost, keyOf, childIn, keysOf, onward, siblings, testOf, below}
+use Rattle.metric.proofs.Keys.{key-metric}
 use Rattle.search_spec.proofs.Order.{child, Remaining, Next, begin, next}
 use Rattle.search_spec.proofs.Agree.{Agrees, passing-is, entered, noted-is, stopped-is, fresh-is}
 
@@ -42,60 +44,62 @@ module _ (v : Vector) (allowance : ℕ) where
     stays (c ∷ cs) s e = ap (λ (t : Search). foldl (attempt v allowance rows f) t cs) (rw e) ∙ stays cs s e
 
     -- What becomes of a child, by the pass test and by whether the allowance is not used up
-    tried : Bool → Bool → Search → Bits → Search
-    tried passes more s c = cond passes (cond more (f c (enter v s c)) (stop s)) s
+    after : Bool → Bool → Search → Bits → Search
+    after passes more s c = cond passes (cond more (f c (enter v s c)) (stop s)) s
 
     runs : (s : Search) (c : Bits) (count : ℕ) → s .stopped ≡ false → count ≡ s .count
-        → attempt v allowance rows f s c ≡ tried (admits v s (metric (v .width) rows c) c) (ltb count allowance) s c
-    unfolding tried
+        → attempt v allowance rows f s c ≡ after (admits v s (metric (v .width) rows c) c) (ltb count allowance) s c
+    unfolding after
     runs s c count e h =
-        ap₂ (λ (b : Bool) (n : ℕ). cond b s (tried (admits v s (metric (v .width) rows c) c) (ltb n allowance) s c)) e (sym h)
+        ap₂ (λ (b : Bool) (n : ℕ). cond b s (after (admits v s (metric (v .width) rows c) c) (ltb n allowance) s c)) e (sym h)
 
   -- The same by the program, given that the pass tests are one and that the searches below a child agree
   module _ (rows : List Row) (node : Bits) where
     abbrev kid : ℕ → Bits
     kid i = child (v .width) node i
 
-    abbrev key : ℕ → ℕ
-    key i = metric (v .width) rows (child (v .width) node i)
+    -- A child's partial metric, and its key
+    abbrev partial : ℕ → ℕ
+    partial i = metric (v .width) rows (child (v .width) node i)
 
-    module _ (low : (i : ℕ) → key i < above) (test : ℕ → ℕ → Taken → Bool) (f : Bits → Search → Search) (g : ℕ → ℕ → Kept → Kept)
+    module _ (own : ℕ → ℕ) (low : (i : ℕ) → metric (v .width) rows (child (v .width) node i) < above) (cheap : (i : ℕ) → own i < costRoom)
+        (shared : ℕ) (costs : (i : ℕ) → cost (v .width) rows (child (v .width) node i) ≡ own i + shared) (test : ℕ → ℕ → Taken → Bool) (f : Bits → Search → Search) (g : ℕ → ℕ → Kept → Kept)
         (same-test : (i : ℕ) (s : Search) (k : Kept) → i < 2 ^ v .width → Agrees v s k
-        → test i (key i) (k .taken) ≡ admits v s (key i) (kid i))
+        → test i (keyed (partial i) (own i)) (k .taken) ≡ admits v s (partial i) (kid i))
         (same-below : (i : ℕ) (s : Search) (k : Kept) → i < 2 ^ v .width → Agrees v s k → s .stopped ≡ false
-        → Agrees v (f (kid i) (enter v s (kid i))) (g i (key i) (counted k))) where
+        → Agrees v (f (kid i) (enter v s (kid i))) (g i (keyed (partial i) (own i)) (counted k))) where
       fold-agrees : (rest : List Bits) (keys : List ℕ) (s : Search) (k : Kept)
-          → Remaining (v .width) rows node keys rest → Agrees v s k → s .stopped ≡ false
+          → Remaining (v .width) rows node own keys rest → Agrees v s k → s .stopped ≡ false
           → Agrees v (foldl (attempt v allowance rows f) s rest) (siblings test g (2 ^ v .width) allowance (length rest) keys k)
-      unfolding siblings tried
+      unfolding siblings after
       fold-agrees [] keys s k r a e = a
       fold-agrees (c ∷ cs) keys s k r a e =
           subst (λ (u : Search). Agrees v (rest u) (siblings test g (2 ^ v .width) allowance (suc (length cs)) keys k))
           (sym (runs rows f s (kid x) (k .count) e (a .count)) ∙ ap (attempt v allowance rows f s) (n .is))
           (rw (n .key, same-test x s k (n .inside) a)
-          (turn (admits v s (key x) (kid x)) (ltb (k .count) allowance) (fold-agrees cs (set keys x above))))
+          (turn (admits v s (partial x) (kid x)) (ltb (k .count) allowance) (fold-agrees cs (set keys x tried))))
         where
           x : ℕ
           x = leastFirst keys (2 ^ v .width)
 
-          n : Next (v .width) rows node keys c cs (leastFirst keys (2 ^ v .width))
-          n = next (v .width) rows node low r
+          n : Next (v .width) rows node own keys c cs (leastFirst keys (2 ^ v .width))
+          n = next (v .width) rows node own low cheap shared costs r
 
           -- after this child, by the model and by the program
           u : Search
           u = f (kid x) (enter v s (kid x))
 
           w : Kept
-          w = g x (key x) (counted k)
+          w = g x (keyed (partial x) (own x)) (counted k)
 
           rest : Search → Search
           rest s′ = foldl (attempt v allowance rows f) s′ cs
 
           left : Kept → Kept
-          left = siblings test g (2 ^ v .width) allowance (length cs) (set keys x above)
+          left = siblings test g (2 ^ v .width) allowance (length cs) (set keys x tried)
 
           Onward : Type 0
-          Onward = (s′ : Search) (k′ : Kept) → Remaining (v .width) rows node (set keys x above) cs → Agrees v s′ k′ → s′ .stopped ≡ false
+          Onward = (s′ : Search) (k′ : Kept) → Remaining (v .width) rows node own (set keys x tried) cs → Agrees v s′ k′ → s′ .stopped ≡ false
               → Agrees v (rest s′) (left k′)
 
           further : (b : Bool) → w .stopped ≡ b → Agrees v u w → Onward → Agrees v (rest u) (onward b w (left w))
@@ -111,7 +115,7 @@ module _ (v : Vector) (allowance : ℕ) where
 
   -- `low`: every partial metric is below the sentinel
   module _ (low : (todo done : List Row) → reverseAux todo done ≡ v .rows → (bits : Bits) → metric (v .width) done bits < above)
-      (some : 0 < v .width) where
+      (cheap : (level s : ℕ) → symbolCost v level s < costRoom) (some : 0 < v .width) where
     -- What holds at a node
     record At (todo done : List Row) (node : Bits) : Type 0 where
       rows : reverseAux todo done ≡ v .rows
@@ -158,20 +162,32 @@ module _ (v : Vector) (allowance : ℕ) where
       under : (i : ℕ) → metric (v .width) (r ∷ done) (down i) < above
       under i = low todo (r ∷ done) (p .rows) (down i)
 
-      -- A child's key is its partial metric
-      key-is : (i : ℕ) → keyOf v (length todo) (number node) d i ≡ metric (v .width) (r ∷ done) (down i)
-      unfolding keyOf metric
+      row-is : getD (v .rows) (length todo) noRow ≡ r
+      row-is =
+          ap₂ (λ (rs : List Row) (j : ℕ). getD rs j noRow) (sym (p .rows)) (sym (add-zero (length todo)))
+          ∙ getD-reverseAux todo (r ∷ done) 0 noRow
+
+      -- The prior cost of a child is its symbol's and the node's
+      abbrev own : ℕ → ℕ
+      own i = symbolCost v (length todo) i
+
+      costs-are : (i : ℕ) → cost (v .width) (r ∷ done) (down i) ≡ own i + cost (v .width) done node
+      unfolding symbolCost cost
+      costs-are i =
+          ap₂ (λ (bits rest : Bits). priorCost (r .priors) bits + cost (v .width) done rest)
+          (take-at (bitsOf (v .width) i) node (v .width) (length-bitsOf (v .width) i))
+          (drop-at (bitsOf (v .width) i) node (v .width) (length-bitsOf (v .width) i))
+          ∙ ap (λ (row : Row). priorCost (row .priors) (bitsOf (v .width) i) + cost (v .width) done node) (sym row-is)
+
+      -- In its key stand its partial metric and its symbol's prior cost
+      key-is : (i : ℕ) → partialOf v (length todo) (number node) d i ≡ metric (v .width) (r ∷ done) (down i)
+      unfolding partialOf metric
       key-is i =
           ap₂ (λ (row : Row) (bits : Bits). d + increment (v .width) row (bitsOf (v .width) i ++ bits)) row-is bits-are
           ∙ add-comm d (increment (v .width) r (down i))
           ∙ ap (λ (bits : Bits). increment (v .width) r (down i) + metric (v .width) done bits)
           (sym (drop-at (bitsOf (v .width) i) node (v .width) (length-bitsOf (v .width) i)))
         where
-          row-is : getD (v .rows) (length todo) noRow ≡ r
-          row-is =
-              ap₂ (λ (rs : List Row) (j : ℕ). getD rs j noRow) (sym (p .rows)) (sym (add-zero (length todo)))
-              ∙ getD-reverseAux todo (r ∷ done) 0 noRow
-
           bits-are : bitsOf (chosen v (suc (length todo))) (number node) ≡ node
           bits-are = ap (λ (h : ℕ). bitsOf h (number node)) (chosen-is p) ∙ bitsOf-number node
 
@@ -182,8 +198,8 @@ module _ (v : Vector) (allowance : ℕ) where
       level-agrees s k deeper a t =
           subst (λ (fuel : ℕ). Agrees v whole (siblings test sub (2 ^ v .width) allowance fuel keys k))
           (children-count (v .width) (r ∷ done) node)
-          (fold-agrees (r ∷ done) node under test (searchBelow v allowance todo (r ∷ done)) sub same-test same-below
-          (children (v .width) (r ∷ done) node) keys s k (begin (v .width) (r ∷ done) node keys room values) a t)
+          (fold-agrees (r ∷ done) node own under (cheap (length todo)) (cost (v .width) done node) costs-are test (searchBelow v allowance todo (r ∷ done)) sub same-test same-below
+          (children (v .width) (r ∷ done) node) keys s k (begin (v .width) (r ∷ done) node own keys room values) a t)
         where
           whole : Search
           whole = searchBelow v allowance (r ∷ todo) done node s
@@ -195,25 +211,29 @@ module _ (v : Vector) (allowance : ℕ) where
           test = testOf v (length todo) (number node)
 
           sub : ℕ → ℕ → Kept → Kept
-          sub i = below v allowance (length todo) (childIn v (length todo) (number node) i)
+          sub i key = below v allowance (length todo) (childIn v (length todo) (number node) i) (metricIn key)
+
+          given : (i : ℕ) → metricIn (keyed (metric (v .width) (r ∷ done) (down i)) (own i)) ≡ metric (v .width) (r ∷ done) (down i)
+          given i = key-metric (metric (v .width) (r ∷ done) (down i)) (own i) (cheap (length todo) i)
 
           same-test : (i : ℕ) (s : Search) (k : Kept) → i < 2 ^ v .width → Agrees v s k
-              → test i (metric (v .width) (r ∷ done) (down i)) (k .taken) ≡ admits v s (metric (v .width) (r ∷ done) (down i)) (down i)
+              → test i (keyed (metric (v .width) (r ∷ done) (down i)) (own i)) (k .taken) ≡ admits v s (metric (v .width) (r ∷ done) (down i)) (down i)
           same-test i s k h b =
               let e = metric (v .width) (r ∷ done) (down i) in
-              ap (passing v (k .taken) e (length todo * v .width)) (child-is i h)
+              ap (λ (x : ℕ). passing v (k .taken) x (length todo * v .width) (childIn v (length todo) (number node) i)) (given i)
+              ∙ ap (passing v (k .taken) e (length todo * v .width)) (child-is i h)
               ∙ passing-is v b e (length todo * v .width) (down i) (under i) (whole-size (at-child i))
 
           same-below : (i : ℕ) (s : Search) (k : Kept) → i < 2 ^ v .width → Agrees v s k → s .stopped ≡ false
               → Agrees v (searchBelow v allowance todo (r ∷ done) (down i) (enter v s (down i)))
-              (sub i (metric (v .width) (r ∷ done) (down i)) (counted k))
-          same-below i s k h b t = rw (child-is i h) (deeper (down i) s k (at-child i) b t)
+              (sub i (keyed (metric (v .width) (r ∷ done) (down i)) (own i)) (counted k))
+          same-below i s k h b t = rw (child-is i h, given i) (deeper (down i) s k (at-child i) b t)
 
           room : 2 ^ v .width ≤ length keys
           room = le-of-eq (sym (length-upFrom (keyOf v (length todo) (number node) d) 0 (2 ^ v .width)))
 
-          values : (i : ℕ) → i < 2 ^ v .width → getD keys i 0 ≡ metric (v .width) (r ∷ done) (down i)
-          values i h = getD-places (keyOf v (length todo) (number node) d) 0 (2 ^ v .width) i h ∙ key-is i
+          values : (i : ℕ) → i < 2 ^ v .width → getD keys i 0 ≡ keyed (metric (v .width) (r ∷ done) (down i)) (own i)
+          values i h = getD-places (keyOf v (length todo) (number node) d) 0 (2 ^ v .width) i h ∙ ap (λ (x : ℕ). keyed x (own i)) (key-is i)
 
     descends : (todo done : List Row) → Descends todo done
     unfolding Descends searchBelow below

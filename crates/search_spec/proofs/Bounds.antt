@@ -20,13 +20,15 @@ use Rattle.model.proofs.Least.{pick-metric}
 use Rattle.model.proofs.Lead.{some-leaf}
 use Rattle.model.proofs.Search.{search-is}
 use Rattle.model.proofs.Bounds.{largestMetric, increment-bound}
+use Rattle.metric.specs.Keys.{metricIn}
 use Rattle.metric.specs.Parts.{filled}
 use Rattle.search_spec.specs.Arrays.{leastFirst}
 use Rattle.metric.specs.Parts.{bitOf}
-use Rattle.search_spec.specs.Program.{above, sideOf, largestPartial, Ranged, Taken, Kept, keptOf, fresh, loweredAt, lowered, noted}
-use Rattle.search_spec.specs.Program.{noRow, chosen, keyOf, childIn, keysOf, onward, siblings, testOf, below}
+use Rattle.search_spec.specs.Program.{above, tried, sideOf, largestPartial, Ranged, Taken, Kept, keptOf, fresh, loweredAt, lowered, noted}
+use Rattle.search_spec.specs.Program.{noRow, chosen, partialOf, keyOf, symbolCost, childIn, keysOf, onward, siblings, testOf, below}
 use Rattle.search_spec.proofs.Arrays.{least-below, set-each, Held, held-start}
-use Rattle.search_spec.proofs.Answer.{rows-low, agrees-in}
+use Rattle.search_spec.proofs.Answer.{rows-low, symbol-cheap, agrees-in}
+use Rattle.search_spec.proofs.Keys.{key-low}
 
 -- B and each minimum are at most what they were
 pub record Falls (t u : Taken) : Type 0 where
@@ -67,7 +69,7 @@ module _ (test : ℕ → ℕ → Taken → Bool) (sub : ℕ → ℕ → Kept →
   unfolding siblings
   siblings-fall zero keys k = falls-refl (k .taken)
   siblings-fall (suc fuel) keys k =
-      go (test s d (k .taken)) (ltb (k .count) allowance) (w .stopped) (falls s d next) (siblings-fall fuel (set keys s above))
+      go (test s d (k .taken)) (ltb (k .count) allowance) (w .stopped) (falls s d next) (siblings-fall fuel (set keys s tried))
     where
       s : ℕ
       s = leastFirst keys n
@@ -82,7 +84,7 @@ module _ (test : ℕ → ℕ → Taken → Bool) (sub : ℕ → ℕ → Kept →
       w = sub s d next
 
       left : Kept → Kept
-      left = siblings test sub n allowance fuel (set keys (leastFirst keys n) above)
+      left = siblings test sub n allowance fuel (set keys (leastFirst keys n) tried)
 
       go : (a b c : Bool) → Falls (k .taken) (w .taken) → ((u : Kept) → Falls (u .taken) (left u .taken))
           → Falls (k .taken) (cond a (cond b (onward c w (left w)) (keptOf (k .count) true (k .taken))) (left k) .taken)
@@ -100,8 +102,8 @@ below-falls v allowance zero node d k = record {
   ones = lowered-falls (labelBits v) true node d (k .taken .ones);
 }
 below-falls v allowance (suc level) node d k =
-    siblings-fall (testOf v level node) (λ s. below v allowance level (childIn v level node s)) (2 ^ v .width) allowance
-    (λ s. below-falls v allowance level (childIn v level node s)) (2 ^ v .width) (keysOf v level node d) k
+    siblings-fall (testOf v level node) (λ s key. below v allowance level (childIn v level node s) (metricIn key)) (2 ^ v .width) allowance
+    (λ s key. below-falls v allowance level (childIn v level node s) (metricIn key)) (2 ^ v .width) (keysOf v level node d) k
 
 -- The same of its result
 pub kept-falls : (v : Vector) (allowance level node d : ℕ) (k w : Kept) → w ≡ below v allowance level node d k
@@ -189,20 +191,22 @@ module _ (v : Vector) (level : ℕ) (inner : level ≡ 0 → ⊥) (inside : leve
       room = omega (arith, suc-mul s (2 ^ chosen v level), mul-le-mul hs (le-refl (2 ^ chosen v level)))
 
   module _ (r : Ranged v) (d : ℕ) (low : d ≤ largestPartial v level) where
-    -- Its key is within the partial metrics of its level
-    pub key-bound : (node s : ℕ) → keyOf v (level - 1) node d s ≤ largestPartial v (level - 1)
-    unfolding keyOf largestMetric
-    key-bound node s =
+    -- Its partial metric is within those of its level
+    pub partial-bound : (node s : ℕ) → partialOf v (level - 1) node d s ≤ largestPartial v (level - 1)
+    unfolding partialOf largestMetric
+    partial-bound node s =
         let more : length (v .rows) - (level - 1) ≡ suc (length (v .rows) - level) = omega arith in
         let same : length (v .rows) - suc (level - 1) ≡ length (v .rows) - level = omega arith in
         let row = rw same at (row-ranged (v .width) (v .rows) (level - 1) (omega arith) (r .rows)) in
         rw more (omega (arith, increment-bound row (bitsOf (v .width) s ++ bitsOf (chosen v (suc (level - 1))) node), low))
 
     -- which the sentinel is above
-    pub key-low : (node s : ℕ) → keyOf v (level - 1) node d s < above
-    key-low node s = lt-of-le-of-lt (key-bound node s) (partial-low v r (level - 1))
+    pub partial-under : (node s : ℕ) → partialOf v (level - 1) node d s < above
+    partial-under node s = lt-of-le-of-lt (partial-bound node s) (partial-low v r (level - 1))
 
     -- At first the keys are the children's own
     pub keys-held : (node : ℕ) (keys : List ℕ) → ((s : ℕ) → s < 2 ^ v .width → getD keys s 0 ≡ keyOf v (level - 1) node d s)
-        → Held above (2 ^ v .width) (keyOf v (level - 1) node d) 0 keys
-    keys-held node keys each = held-start above (2 ^ v .width) (keyOf v (level - 1) node d) keys (λ i h. key-low node i) each
+        → Held tried (2 ^ v .width) (keyOf v (level - 1) node d) 0 keys
+    keys-held node keys each =
+        held-start tried (2 ^ v .width) (keyOf v (level - 1) node d) keys
+        (λ i h. key-low (partialOf v (level - 1) node d i) (symbolCost v (level - 1) i) (partial-under node i) (symbol-cheap v r (level - 1) i)) each

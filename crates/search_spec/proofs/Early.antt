@@ -20,9 +20,12 @@ use Rattle.model.specs.Walk.{anyOf}
 use Rattle.model.proofs.Lists.{or-left, or-right, any-false, in-upFrom, getD-places}
 use Rattle.metric.specs.Parts.{bitOf}
 use Rattle.search_spec.specs.Arrays.{leastFirst}
-use Rattle.search_spec.specs.Program.{above, Taken, Kept, opens, reachOf, reaches, lets, passing}
-use Rattle.search_spec.specs.Program.{chosen, keyOf, keysOf, childIn, siblings, testOf, below, restOf}
+use Rattle.metric.specs.Keys.{costRoom, metricIn}
+use Rattle.search_spec.specs.Program.{above, tried, Taken, Kept, opens, reachOf, reaches, lets, passing}
+use Rattle.search_spec.specs.Program.{chosen, partialOf, symbolCost, keyOf, keysOf, childIn, siblings, testOf, below, restOf}
 use Rattle.search_spec.proofs.Arrays.{least-below, least-le, set-each}
+use Rattle.metric.proofs.Keys.{key-metric, metric-rises}
+use Rattle.search_spec.proofs.Keys.{key-low}
 use Rattle.search_spec.proofs.Reach.{child-bit}
 
 -- Where a test holds, a weaker one does
@@ -82,7 +85,7 @@ module _ (v : Vector) (t : Taken) where
 
 -- Where each child is cut at its floor or more, nothing changes
 module _ (test : ℕ → ℕ → Taken → Bool) (sub : ℕ → ℕ → Kept → Kept) (n allowance : ℕ) (floor : ℕ → ℕ) (k : Kept) (some : 0 < n)
-    (low : (s : ℕ) → s < n → floor s ≤ above) (cut : (s e : ℕ) → s < n → floor s ≤ e → test s e (k .taken) ≡ false) where
+    (low : (s : ℕ) → s < n → floor s ≤ tried) (cut : (s e : ℕ) → s < n → floor s ≤ e → test s e (k .taken) ≡ false) where
   siblings-end : (fuel : ℕ) (keys : List ℕ) → ((i : ℕ) → i < n → floor i ≤ getD keys i 0) → siblings test sub n allowance fuel keys k ≡ k
   unfolding siblings
   siblings-end zero keys all = refl
@@ -90,17 +93,17 @@ module _ (test : ℕ → ℕ → Taken → Bool) (sub : ℕ → ℕ → Kept →
       let s = leastFirst keys n in
       let inside = least-below keys n some in
       rw (cut s (getD keys s 0) inside (all s inside))
-      (siblings-end fuel (set keys s above) (λ i l. set-each (λ (x : ℕ). floor i ≤ x) keys s above i (low i l) (all i l)))
+      (siblings-end fuel (set keys s tried) (λ i l. set-each (λ (x : ℕ). floor i ≤ x) keys s tried i (low i l) (all i l)))
 
 -- The loop over siblings may end where the node itself would not pass at the least key left
 pub rest-beyond : (v : Vector) (allowance node level fuel : ℕ) (keys : List ℕ) (k : Kept) → suc level ≤ length (v .rows)
     → node < 2 ^ chosen v (suc level)
-    → getD keys (leastFirst keys (2 ^ v .width)) 0 ≤ above
-    → false ≡ passing v (k .taken) (getD keys (leastFirst keys (2 ^ v .width)) 0) (suc level * v .width) node
+    → getD keys (leastFirst keys (2 ^ v .width)) 0 ≤ tried
+    → false ≡ passing v (k .taken) (metricIn (getD keys (leastFirst keys (2 ^ v .width)) 0)) (suc level * v .width) node
     → restOf v allowance level node fuel keys k ≡ k
 unfolding restOf chosen
 rest-beyond v allowance node level fuel keys k inside placed low far =
-    siblings-end (testOf v level node) (λ x. below v allowance level (childIn v level node x)) (2 ^ v .width) allowance (λ _. d) k
+    siblings-end (testOf v level node) (λ x key. below v allowance level (childIn v level node x) (metricIn key)) (2 ^ v .width) allowance (λ _. d) k
     (pow-pos (v .width)) (λ _ _. low) cut fuel keys (least-le keys (2 ^ v .width))
   where
     d : ℕ
@@ -113,22 +116,28 @@ rest-beyond v allowance node level fuel keys k inside placed low far =
 
     cut : (s e : ℕ) → s < 2 ^ v .width → d ≤ e → testOf v level node s e (k .taken) ≡ false
     cut s e l h =
-        passing-falls v (k .taken) d e (suc level * v .width) node (level * v .width) (childIn v level node s) h
+        passing-falls v (k .taken) (metricIn d) (metricIn e) (suc level * v .width) node (level * v .width) (childIn v level node s)
+        (metric-rises d e h)
         (λ i l. opens-child (labelBits v) (k .taken .label) ((length (v .rows) - suc level) * v .width) s node (level * v .width)
         (suc level * v .width) i placed bits (omega (arith, add-mul level 1 (v .width))) l) (sym far)
 
 -- A node whose children all fail the test is left as it was found
 pub below-shut : (v : Vector) (allowance level node d : ℕ) (k : Kept)
-    → ((s : ℕ) → s < 2 ^ v .width → keyOf v level node d s ≤ above)
-    → ((s : ℕ) → s < 2 ^ v .width → passing v (k .taken) (keyOf v level node d s) (level * v .width) (childIn v level node s) ≡ false)
+    → ((s : ℕ) → s < 2 ^ v .width → (partialOf v level node d s < above) × (symbolCost v level s < costRoom))
+    → ((s : ℕ) → s < 2 ^ v .width → passing v (k .taken) (partialOf v level node d s) (level * v .width) (childIn v level node s) ≡ false)
     → below v allowance (suc level) node d k ≡ k
 unfolding below
 below-shut v allowance level node d k low shut =
-    siblings-end (testOf v level node) (λ x. below v allowance level (childIn v level node x)) (2 ^ v .width) allowance
-    (keyOf v level node d) k (pow-pos (v .width)) low cut (2 ^ v .width) (keysOf v level node d)
+    siblings-end (testOf v level node) (λ x key. below v allowance level (childIn v level node x) (metricIn key)) (2 ^ v .width) allowance
+    (keyOf v level node d) k (pow-pos (v .width)) inside cut (2 ^ v .width) (keysOf v level node d)
     (λ i l. le-of-eq (sym (getD-places (keyOf v level node d) 0 (2 ^ v .width) i l)))
   where
+    inside : (s : ℕ) → s < 2 ^ v .width → keyOf v level node d s ≤ tried
+    inside s l = omega (arith, key-low (partialOf v level node d s) (symbolCost v level s) (low s l .0) (low s l .1))
+
     cut : (s e : ℕ) → s < 2 ^ v .width → keyOf v level node d s ≤ e → testOf v level node s e (k .taken) ≡ false
     cut s e l h =
-        passing-falls v (k .taken) (keyOf v level node d s) e (level * v .width) (childIn v level node s) (level * v .width)
-        (childIn v level node s) h (λ i m o. o) (shut s l)
+        passing-falls v (k .taken) (partialOf v level node d s) (metricIn e) (level * v .width) (childIn v level node s) (level * v .width)
+        (childIn v level node s)
+        (rw (key-metric (partialOf v level node d s) (symbolCost v level s) (low s l .1)) at (metric-rises (keyOf v level node d s) e h))
+        (λ i m o. o) (shut s l)

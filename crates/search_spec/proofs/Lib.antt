@@ -1,5 +1,6 @@
 -- The walk over numbers gives the model's answer, and the laws that code's proofs cite.
 pub mod Arrays
+pub mod Keys
 pub mod Reach
 pub mod Order
 pub mod Agree

@@ -1,6 +1,7 @@
--- The smallest key not taken is the model's next child. Children rise by partial metric and then by symbol, and so do keys by value
--- and place; a taken key is the sentinel, which is above every partial metric.
-use Prim.Native.Nat.{ℕ, _^_, _≤_, _<_}
+-- The smallest key not taken is the model's next child. Children rise by partial metric, then by partial prior cost and then by symbol,
+-- and so do keys by value and place, since siblings share all of the prior cost but their symbols' own; the key of a child that was tried
+-- is above every other.
+use Prim.Native.Nat.{ℕ, _+_, _^_, _≤_, _<_}
 use mathlib.Core.Path.{_≡_, refl, sym, _∙_, ap, subst, subst₂}
 use mathlib.Core.Bool.{true}
 use mathlib.Core.Logic.{_⊎_, inl, inr, _≢_}
@@ -10,7 +11,7 @@ use native.Mathlib.Omega.{arith}
 use lib.ListN.{length, getD, set, length-set}
 use lib.Seq.{getD-set-same, getD-set-other}
 use Rattle.model.specs.Constellation.{Bits, number, bitsOf}
-use Rattle.model.specs.Metric.{Row, metric}
+use Rattle.model.specs.Metric.{Row, metric, cost}
 use Rattle.model.specs.Order.{isBefore}
 use Rattle.model.specs.Walk.{children}
 use Rattle.model.specs.Block.{_∈_}
@@ -20,8 +21,10 @@ use Rattle.model.proofs.Numbers.{number-below, number-bitsOf, bitsOf-number, le
 use Rattle.model.proofs.Tree.{children-of, children-in, once-children}
 use Rattle.model.proofs.Order.{Rising, children-rise, sibling-order}
 use Rattle.search_spec.specs.Arrays.{leastFirst}
-use Rattle.search_spec.specs.Program.{above}
+use Rattle.metric.specs.Keys.{costRoom, keyed}
+use Rattle.search_spec.specs.Program.{above, tried}
 use Rattle.search_spec.proofs.Arrays.{least-below, least-le, least-first}
+use Rattle.search_spec.proofs.Keys.{key-low, key-order}
 
 -- A key with its place
 abbrev placed : List ℕ → ℕ → List ℕ
@@ -46,13 +49,14 @@ least-is keys n i h all = go (all a (least-below keys n (omega arith)))
 abbrev pub child : ℕ → Bits → ℕ → Bits
 child q node i = bitsOf q i ++ node
 
-module _ (q : ℕ) (rows : List Row) (node : Bits) where
+-- `own` is the prior cost of each child's own symbol
+module _ (q : ℕ) (rows : List Row) (node : Bits) (own : ℕ → ℕ) where
   -- The children that are left, in their order, and the keys of all
   pub record Remaining (keys : List ℕ) (rest : List Bits) : Type 0 where
     pub wide : 2 ^ q ≤ length keys
     pub among : (c : Bits) → c ∈ rest → c ∈ children q rows node
-    pub keyed : (i : ℕ) → i < 2 ^ q → child q node i ∈ rest → getD keys i 0 ≡ metric q rows (child q node i)
-    pub each : (i : ℕ) → i < 2 ^ q → (child q node i ∈ rest) ⊎ (getD keys i 0 ≡ above)
+    pub keyed : (i : ℕ) → i < 2 ^ q → child q node i ∈ rest → getD keys i 0 ≡ keyed (metric q rows (child q node i)) (own i)
+    pub each : (i : ℕ) → i < 2 ^ q → (child q node i ∈ rest) ⊎ (getD keys i 0 ≡ tried)
     pub rising : Rising (isBefore q rows) rest
     pub once : Once rest
 
@@ -60,11 +64,11 @@ module _ (q : ℕ) (rows : List Row) (node : Bits) where
   pub record Next (keys : List ℕ) (c : Bits) (rest : List Bits) (s : ℕ) : Type 0 where
     pub inside : s < 2 ^ q
     pub is : child q node s ≡ c
-    pub key : getD keys s 0 ≡ metric q rows (child q node s)
-    pub left : Remaining (set keys s above) rest
+    pub key : getD keys s 0 ≡ keyed (metric q rows (child q node s)) (own s)
+    pub left : Remaining (set keys s tried) rest
 
   -- At first all are left
-  pub begin : (keys : List ℕ) → 2 ^ q ≤ length keys → ((i : ℕ) → i < 2 ^ q → getD keys i 0 ≡ metric q rows (child q node i))
+  pub begin : (keys : List ℕ) → 2 ^ q ≤ length keys → ((i : ℕ) → i < 2 ^ q → getD keys i 0 ≡ keyed (metric q rows (child q node i)) (own i))
       → Remaining keys (children q rows node)
   begin keys w h = record {
     wide = w;
@@ -78,7 +82,8 @@ module _ (q : ℕ) (rows : List Row) (node : Bits) where
   abbrev kid : ℕ → Bits
   kid i = child q node i
 
-  module _ (low : (i : ℕ) → metric q rows (child q node i) < above) {keys : List ℕ} {c : Bits} {rest : List Bits}
+  module _ (low : (i : ℕ) → metric q rows (child q node i) < above) (cheap : (i : ℕ) → own i < costRoom)
+      (shared : ℕ) (costs : (i : ℕ) → cost q rows (child q node i) ≡ own i + shared) {keys : List ℕ} {c : Bits} {rest : List Bits}
       (r : Remaining keys (c ∷ rest)) where
     -- The first child left has a symbol
     symbol : (s : ℕ) × (s < 2 ^ q) × (kid s ≡ c)
@@ -94,34 +99,42 @@ module _ (q : ℕ) (rows : List Row) (node : Bits) where
           sym (number-bitsOf q i h) ∙ ap number (append-cancel-right (bitsOf q i) (bitsOf q s) node (e ∙ sym is))
           ∙ number-bitsOf q s inside
 
-      own-key : getD keys s 0 ≡ metric q rows (kid s)
+      own-key : getD keys s 0 ≡ keyed (metric q rows (kid s)) (own s)
       own-key = r .keyed s inside (List·Memᴰ·head is)
 
       -- Its key is the first smallest
       first : leastFirst keys (2 ^ q) ≡ s
       first = least-is keys (2 ^ q) s inside (λ j h. go j h (r .each j h))
         where
-          by-order : (j : ℕ) → j < 2 ^ q → kid j ∈ rest → AtOrBefore (metric q rows (kid s) ∷ s ∷ []) (metric q rows (kid j) ∷ j ∷ [])
+          -- what siblings share of the prior cost decides nothing
+          by-own : {x y : ℕ} (j : ℕ) → AtOrBefore (metric q rows (kid s) ∷ cost q rows (kid s) ∷ x ∷ []) (metric q rows (kid j) ∷ cost q rows (kid j) ∷ y ∷ [])
+              → AtOrBefore (metric q rows (kid s) ∷ own s ∷ x ∷ []) (metric q rows (kid j) ∷ own j ∷ y ∷ [])
+          by-own j (inl k) = inl k
+          by-own j (inr (k, inl l)) = inr (k, inl (omega (arith, costs s, costs j)))
+          by-own j (inr (k, inr (l, m))) = inr (k, inr (omega (arith, costs s, costs j), m))
+
+          by-order : (j : ℕ) → j < 2 ^ q → kid j ∈ rest
+              → AtOrBefore (keyed (metric q rows (kid s)) (own s) ∷ s ∷ []) (keyed (metric q rows (kid j)) (own j) ∷ j ∷ [])
           by-order j h m =
               let before : isBefore q rows (kid s) (kid j) ≡ true = rw is (r .rising .0 (kid j) m) in
-              subst₂ (λ (x y : ℕ). AtOrBefore (metric q rows (kid s) ∷ x ∷ []) (metric q rows (kid j) ∷ y ∷ []))
+              subst₂ (λ (x y : ℕ). AtOrBefore (keyed (metric q rows (kid s)) (own s) ∷ x ∷ []) (keyed (metric q rows (kid j)) (own j) ∷ y ∷ []))
               (number-bitsOf q s inside) (number-bitsOf q j h)
-              (earlier-true _ _ (sym (sibling-order q rows node (bitsOf q s) (bitsOf q j)) ∙ before))
+              (key-order (cheap s) (by-own j (earlier-true _ _ (sym (sibling-order q rows node (bitsOf q s) (bitsOf q j)) ∙ before))))
 
           among : (j : ℕ) → j < 2 ^ q → (kid j ≡ c) ⊎ (kid j ∈ rest) → AtOrBefore (placed keys s) (placed keys j)
           among j h (inl e) = rw (same-symbol j h e) (order-refl (placed keys s))
           among j h (inr m) = rw (own-key, r .keyed j h (List·Memᴰ·tail m)) (by-order j h m)
 
-          go : (j : ℕ) → j < 2 ^ q → (kid j ∈ c ∷ rest) ⊎ (getD keys j 0 ≡ above) → AtOrBefore (placed keys s) (placed keys j)
+          go : (j : ℕ) → j < 2 ^ q → (kid j ∈ c ∷ rest) ⊎ (getD keys j 0 ≡ tried) → AtOrBefore (placed keys s) (placed keys j)
           go j h (inl m) = among j h (List·Memᴰ·cases-cons m)
-          go j h (inr e) = inl (omega (arith, own-key, low s))
+          go j h (inr e) = inl (omega (arith, own-key, key-low (metric q rows (kid s)) (own s) (low s) (cheap s)))
 
       -- With that key taken the other children are left
-      others : Remaining (set keys s above) rest
+      others : Remaining (set keys s tried) rest
       others = record {
-        wide = omega (arith, r .wide, length-set keys s above);
+        wide = omega (arith, r .wide, length-set keys s tried);
         among = λ x m. r .among x (List·Memᴰ·tail m);
-        keyed = λ i h m. getD-set-other keys s i above 0 (apart i m) ∙ r .keyed i h (List·Memᴰ·tail m);
+        keyed = λ i h m. getD-set-other keys s i tried 0 (apart i m) ∙ r .keyed i h (List·Memᴰ·tail m);
         each = λ i h. taken i h (ℕ-discrete i s) (r .each i h);
         rising = r .rising .1;
         once = r .once .1;
@@ -134,11 +147,11 @@ module _ (q : ℕ) (rows : List Row) (node : Bits) where
           among i h e (inl p) = absurd (e (same-symbol i h p))
           among i h e (inr m) = m
 
-          taken : (i : ℕ) → i < 2 ^ q → Dec (i ≡ s) → (kid i ∈ c ∷ rest) ⊎ (getD keys i 0 ≡ above)
-              → (kid i ∈ rest) ⊎ (getD (set keys s above) i 0 ≡ above)
-          taken i h (yes e) w = inr (rw e (getD-set-same keys s above 0 (omega (arith, inside, r .wide))))
+          taken : (i : ℕ) → i < 2 ^ q → Dec (i ≡ s) → (kid i ∈ c ∷ rest) ⊎ (getD keys i 0 ≡ tried)
+              → (kid i ∈ rest) ⊎ (getD (set keys s tried) i 0 ≡ tried)
+          taken i h (yes e) w = inr (rw e (getD-set-same keys s tried 0 (omega (arith, inside, r .wide))))
           taken i h (no e) (inl m) = inl (among i h e (List·Memᴰ·cases-cons m))
-          taken i h (no e) (inr k) = inr (getD-set-other keys s i above 0 e ∙ k)
+          taken i h (no e) (inr k) = inr (getD-set-other keys s i tried 0 e ∙ k)
 
     -- The first smallest key is that of the first child left
     pub next : Next keys c rest (leastFirst keys (2 ^ q))

@@ -13,7 +13,8 @@ use lib.Pow.{pow-pos}
 use Rattle.model.specs.Metric.{Vector}
 use Rattle.model.proofs.Lists.{length-upFrom, getD-places}
 use Rattle.search_spec.specs.Arrays.{leastFirst}
-use Rattle.search_spec.specs.Program.{above, Taken, Kept, keptOf, passing}
+use Rattle.metric.specs.Keys.{metricIn}
+use Rattle.search_spec.specs.Program.{tried, Taken, Kept, keptOf, passing}
 use Rattle.search_spec.specs.Program.{keyOf, childIn, keysOf, onward, siblings, testOf, below, restOf}
 use Rattle.search_spec.proofs.Arrays.{least-below, Same, least-same, same-set}
 
@@ -32,9 +33,9 @@ module _ (test : ℕ → ℕ → Taken → Bool) (sub : ℕ → ℕ → Kept →
   unfolding siblings step
   siblings-same zero h k = refl
   siblings-same (suc fuel) {a} {b} h k =
-      ap₂ (λ (s d : ℕ). step k s d (siblings test sub n allowance fuel (set a s above))) (least-same h some)
+      ap₂ (λ (s d : ℕ). step k s d (siblings test sub n allowance fuel (set a s tried))) (least-same h some)
       (ap (λ (s : ℕ). getD a s 0) (least-same h some) ∙ h .keys (leastFirst b n) (least-below b n some))
-      ∙ ap (step k (leastFirst b n) (getD b (leastFirst b n) 0)) (fun-ext (siblings-same fuel (same-set h (leastFirst b n) above)))
+      ∙ ap (step k (leastFirst b n) (getD b (leastFirst b n) 0)) (fun-ext (siblings-same fuel (same-set h (leastFirst b n) tried)))
 
 module _ (v : Vector) (n : ℕ) (en : n ≡ 2 ^ v .width) (allowance node level : ℕ) where
   -- Another level: the keys of its children, in an array with room for them
@@ -55,7 +56,7 @@ module _ (v : Vector) (n : ℕ) (en : n ≡ 2 ^ v .width) (allowance node level 
       test = testOf v (level - 1) node
 
       sub : ℕ → ℕ → Kept → Kept
-      sub s = below v allowance (level - 1) (childIn v (level - 1) node s)
+      sub s x = below v allowance (level - 1) (childIn v (level - 1) node s) (metricIn x)
 
       same : Same (2 ^ v .width) (keysOf v (level - 1) node d) keys
       same = record {
@@ -79,13 +80,13 @@ module _ (v : Vector) (n : ℕ) (en : n ≡ 2 ^ v .width) (allowance node level 
     -- The child with the first smallest key is tried
     module _ (more : turns < n) (s : ℕ) (es : s ≡ leastFirst keys n) (child : ℕ) (ec : child ≡ childIn v level node s) where
       abbrev searched : Kept
-      searched = below v allowance level child (getD keys s 0) (keptOf (k .count + 1) (k .stopped) (k .taken))
+      searched = below v allowance level child (metricIn (getD keys s 0)) (keptOf (k .count + 1) (k .stopped) (k .taken))
 
       abbrev further : Kept → Kept
-      further = restOf v allowance level node (n - (turns + 1)) (set keys s above)
+      further = restOf v allowance level node (n - (turns + 1)) (set keys s tried)
 
       turn : restOf v allowance level node (n - turns) keys k
-          ≡ cond (passing v (k .taken) (getD keys s 0) (level * v .width) child)
+          ≡ cond (passing v (k .taken) (metricIn (getD keys s 0)) (level * v .width) child)
           (cond (ltb (k .count) allowance) (onward (searched .stopped) searched (further searched)) (keptOf (k .count) true (k .taken)))
           (further k)
       unfolding restOf siblings
@@ -95,20 +96,20 @@ module _ (v : Vector) (n : ℕ) (en : n ≡ 2 ^ v .width) (allowance node level 
           rw (f, g, ← ec)
 
       -- It is cut
-      pub rest-cut : false ≡ passing v (k .taken) (getD keys s 0) (level * v .width) child
-          → restOf v allowance level node (n - turns) keys k ≡ restOf v allowance level node (n - (turns + 1)) (set keys s above) k
+      pub rest-cut : false ≡ passing v (k .taken) (metricIn (getD keys s 0)) (level * v .width) child
+          → restOf v allowance level node (n - turns) keys k ≡ restOf v allowance level node (n - (turns + 1)) (set keys s tried) k
       rest-cut e = turn ∙ rw (← e)
 
-      module _ (e : true ≡ passing v (k .taken) (getD keys s 0) (level * v .width) child) where
+      module _ (e : true ≡ passing v (k .taken) (metricIn (getD keys s 0)) (level * v .width) child) where
         -- It passes, and the allowance is used up
         pub rest-halted : allowance ≤ k .count → keptOf (k .count) true (k .taken) ≡ restOf v allowance level node (n - turns) keys k
         rest-halted h = sym (turn ∙ rw (← e, le-ltb (k .count) allowance h))
 
         -- It passes and is searched
         module _ (running : k .stopped ≡ false) (h : k .count < allowance) (w : Kept)
-            (is : w ≡ below v allowance level child (getD keys s 0) (keptOf (k .count + 1) false (k .taken))) where
+            (is : w ≡ below v allowance level child (metricIn (getD keys s 0)) (keptOf (k .count + 1) false (k .taken))) where
           found : w ≡ searched
-          found = is ∙ ap (λ (x : Bool). below v allowance level child (getD keys s 0) (keptOf (k .count + 1) x (k .taken))) (sym running)
+          found = is ∙ ap (λ (x : Bool). below v allowance level child (metricIn (getD keys s 0)) (keptOf (k .count + 1) x (k .taken))) (sym running)
 
           -- to the end of the allowance
           pub rest-stopped : w .stopped ≡ true → w ≡ restOf v allowance level node (n - turns) keys k
@@ -116,5 +117,5 @@ module _ (v : Vector) (n : ℕ) (en : n ≡ 2 ^ v .width) (allowance node level 
 
           -- or its subtree is finished
           pub rest-onward : w .stopped ≡ false
-              → restOf v allowance level node (n - turns) keys k ≡ restOf v allowance level node (n - (turns + 1)) (set keys s above) w
+              → restOf v allowance level node (n - turns) keys k ≡ restOf v allowance level node (n - (turns + 1)) (set keys s tried) w
           rest-onward f = turn ∙ rw (← e, lt-ltb (k .count) allowance h, ← found, f)

@@ -4,8 +4,8 @@ use mathlib.Core.Path.{_≡_}
 use mathlib.Core.List.{List}
 use lib.ListN.{drop}
 use Rattle.model.specs.Constellation.{Bits, bitsOf}
-use Rattle.model.specs.Metric.{Row, Vector, metric, distance, cost, distanceOf, costOf, labelBits}
-use Rattle.search_spec.specs.Program.{above, chosen}
+use Rattle.model.specs.Metric.{Row, Vector, metric, distance, cost, distanceOf, labelBits}
+use Rattle.search_spec.specs.Program.{above, chosen, costAt}
 use Rattle.tree.specs.declared.Node.{Node}
 use Rattle.tree.specs.declared.Kept.{Kept}
 
@@ -22,4 +22,4 @@ pub record NodeParts (v : Vector) (n : Node) : Type 0 where
 -- Once there is a leaf, both parts of the best label's metric are kept
 pub record BestParts (v : Vector) (k : Kept) : Type 0 where
   pub distance-is : k .best < above → k .distance ≡ distanceOf v (bitsOf (labelBits v) (k .label))
-  pub cost-is : k .best < above → k .cost ≡ costOf v (bitsOf (labelBits v) (k .label))
+  pub cost-is : k .best < above → k .cost ≡ costAt v (k .label)

@@ -2,18 +2,20 @@
 -- and the next child is the first smallest key that is not taken. That it gives document 01's answer is `replied-is` (proofs/Answer).
 use Prim.Native.Nat.{ℕ, zero, suc, _+_, _-_, _*_, _^_, _≤_, min}
 use mathlib.Core.Bool.{Bool, true, false, cond, not, _&&_, _||_, Bool·beq}
-use mathlib.Core.List.{List, [], _++_, map}
+use mathlib.Core.List.{List, [], _∷_, _++_, map}
 use lib.Dec.{leb, ltb, eqb}
 use lib.ListN.{length, getD, set, replicate, take, drop}
 use lib.IntN.{ℤ, pos, _+ℤ_, _-ℤ_}
 use lib.Signed.{ltZ}
 use Rattle.model.specs.Constellation.{real, bitsOf}
-use Rattle.model.specs.Metric.{Row, Vector, increment, labelBits, priorAt}
+use Rattle.model.specs.Metric.{Row, Vector, priorCost, increment, costOf, labelBits, priorAt}
+use Rattle.model.specs.Order.{earlier}
 use Rattle.model.specs.Soft.{Least, infinite, finite, upFrom, places, softValue}
 use Rattle.model.specs.Walk.{anyOf}
 use Rattle.model.specs.Block.{Answer, emptySide, RowsInRange, mostStreams, mostWidth, mostBits}
 use Rattle.model.proofs.Bounds.{largestMetric}
 use Rattle.metric.specs.Parts.{bitOf, filled}
+use Rattle.metric.specs.Keys.{keyed, metricIn}
 use Rattle.search_spec.specs.Arrays.{leastFirst}
 
 -- The most children of a node
@@ -33,9 +35,13 @@ pub record Ranged (v : Vector) : Type 0 where
 abbrev pub largestPartial : Vector → ℕ → ℕ
 largestPartial v level = largestMetric (v .width) (length (v .rows) - level)
 
--- The sentinel, 2 ^ 39, above every metric: an infinite least metric, and the key of a child that was tried
+-- The sentinel, 2 ^ 39, above every metric: an infinite least metric
 abbrev pub above : ℕ
 above = 549755813888
+
+-- The key of a child that was tried, 2 ^ 62: it has the sentinel for a metric
+abbrev pub tried : ℕ
+tried = 4611686018427387904
 
 -- The sentinel decoded
 unfoldable pub sideOf : ℕ → Least
@@ -108,14 +114,18 @@ loweredAt n x label d us i = cond (Bool·beq (bitOf n label i) x) (min d (getD u
 abbrev pub lowered : ℕ → Bool → ℕ → ℕ → List ℕ → List ℕ
 lowered n x label d us = filled (loweredAt n x label d us) n us
 
--- A label of metric d comes before the best one
-abbrev pub sooner : ℕ → ℕ → ℕ → ℕ → Bool
-sooner d node best label = ltb d best || (eqb d best && ltb node label)
+-- The prior cost of a label, by its number
+abbrev pub costAt : Vector → ℕ → ℕ
+costAt v label = costOf v (bitsOf (labelBits v) label)
+
+-- A label of metric d comes before the best one: by metric, then by prior cost, then by number
+abbrev pub sooner : Vector → ℕ → ℕ → ℕ → ℕ → Bool
+sooner v d node best label = earlier (d ∷ costAt v node ∷ node ∷ []) (best ∷ costAt v label ∷ label ∷ [])
 
 -- A leaf of metric d is taken into m, B and the minima
 unfoldable pub noted : Vector → ℕ → ℕ → Taken → Taken
 noted v node d t =
-    takenOf (cond (sooner d node (t .best) (t .label)) node (t .label)) (min d (t .best))
+    takenOf (cond (sooner v d node (t .best) (t .label)) node (t .label)) (min d (t .best))
     (lowered (labelBits v) false node d (t .zeros)) (lowered (labelBits v) true node d (t .ones))
 
 -- In place of a row that is not there
@@ -127,12 +137,20 @@ unfoldable pub chosen : Vector → ℕ → ℕ
 chosen v level = (length (v .rows) - level) * v .width
 
 -- The partial metric of the child with symbol s of a node of partial metric d; `level` streams stand above the child's
-unfoldable pub keyOf : Vector → ℕ → ℕ → ℕ → ℕ → ℕ
-keyOf v level node d s = d + increment (v .width) (getD (v .rows) level noRow) (bitsOf (v .width) s ++ bitsOf (chosen v (suc level)) node)
+unfoldable pub partialOf : Vector → ℕ → ℕ → ℕ → ℕ → ℕ
+partialOf v level node d s = d + increment (v .width) (getD (v .rows) level noRow) (bitsOf (v .width) s ++ bitsOf (chosen v (suc level)) node)
 
 -- The child's number
 abbrev pub childIn : Vector → ℕ → ℕ → ℕ → ℕ
 childIn v level node s = s * 2 ^ chosen v (suc level) + node
+
+-- The prior cost of symbol s; `level` streams stand above its own
+unfoldable pub symbolCost : Vector → ℕ → ℕ → ℕ
+symbolCost v level s = priorCost (getD (v .rows) level noRow .priors) (bitsOf (v .width) s)
+
+-- The child's key: its partial metric with that cost
+abbrev pub keyOf : Vector → ℕ → ℕ → ℕ → ℕ → ℕ
+keyOf v level node d s = keyed (partialOf v level node d s) (symbolCost v level s)
 
 -- The keys of all children
 abbrev pub keysOf : Vector → ℕ → ℕ → ℕ → List ℕ
@@ -149,29 +167,29 @@ module _ (test : ℕ → ℕ → Taken → Bool) (sub : ℕ → ℕ → Kept →
   siblings zero keys k = k
   siblings (suc fuel) keys k =
       let s = leastFirst keys n in
-      let d = getD keys s 0 in
-      let left = set keys s above in
-      cond (test s d (k .taken))
+      let key = getD keys s 0 in
+      let left = set keys s tried in
+      cond (test s key (k .taken))
       (cond (ltb (k .count) allowance)
-      (let w = sub s d (keptOf (k .count + 1) (k .stopped) (k .taken)) in onward (w .stopped) w (siblings fuel left w))
+      (let w = sub s key (keptOf (k .count + 1) (k .stopped) (k .taken)) in onward (w .stopped) w (siblings fuel left w))
       (keptOf (k .count) true (k .taken)))
       (siblings fuel left k)
 
--- The pass test of a node's child
+-- The pass test of a node's child, by its key
 abbrev pub testOf : Vector → ℕ → ℕ → ℕ → ℕ → Taken → Bool
-testOf v level node s d t = passing v t d (level * v .width) (childIn v level node s)
+testOf v level node s key t = passing v t (metricIn key) (level * v .width) (childIn v level node s)
 
 -- The search below a node of partial metric d, with `level` streams to choose
 unfoldable pub below : Vector → ℕ → ℕ → ℕ → ℕ → Kept → Kept
 below v allowance zero node d k = keptOf (k .count) (k .stopped) (noted v node d (k .taken))
 below v allowance (suc level) node d k =
-    siblings (testOf v level node) (λ s. below v allowance level (childIn v level node s)) (2 ^ v .width) allowance (2 ^ v .width)
+    siblings (testOf v level node) (λ s key. below v allowance level (childIn v level node s) (metricIn key)) (2 ^ v .width) allowance (2 ^ v .width)
     (keysOf v level node d) k
 
 -- What is left to do below a node with `fuel` children not tried
 unfoldable pub restOf : Vector → ℕ → ℕ → ℕ → ℕ → List ℕ → Kept → Kept
 restOf v allowance level node fuel keys k =
-    siblings (testOf v level node) (λ s. below v allowance level (childIn v level node s)) (2 ^ v .width) allowance fuel keys k
+    siblings (testOf v level node) (λ s key. below v allowance level (childIn v level node s) (metricIn key)) (2 ^ v .width) allowance fuel keys k
 
 -- Bit i's soft value, from the minima; `empty` is what an empty side gives
 unfoldable pub valueOf : Vector → ℕ → Taken → ℕ → ℤ

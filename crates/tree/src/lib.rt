@@ -38,5 +38,12 @@ pub struct Complex {
     pub im: i64,
 }
 
-// Above every metric, which document 01 bounds by 2 to the 39: an infinite least metric, and the key of a child that was taken.
+// Above every metric, which document 01 bounds by 2 to the 39: an infinite least metric.
 pub const ABOVE: u64 = 549755813888;
+
+// 2 to the 23, above the prior cost of every symbol. A child's key is its partial metric times this, plus its symbol's prior cost: siblings
+// share the rest of their prior cost, so that one comparison of keys is document 02's order of siblings but for the symbol label.
+pub const COST_ROOM: u64 = 8388608;
+
+// The key of a child that was tried.
+pub const TRIED: u64 = ABOVE * COST_ROOM;

@@ -4,7 +4,7 @@ use reference::comparison::{compare, outcome, same};
 use reference::detectors::{fast, plain, Detector};
 use reference::format::block::Block;
 use reference::format::encoding::Opening;
-use reference::inputs::trials;
+use reference::inputs::{ties, trials};
 use std::iter::once;
 
 /// Bytes to spare make no difference to the plain detector, which is slow.
@@ -29,7 +29,14 @@ fn older_records_with_w_equal_to_c() {
         assert_eq!(outcome(linked::detect, &weak[..], room), outcome(linked::detect, &record[..], room), "{weak:02X?}");
         accepted += 1;
     }
-    assert_eq!(accepted, 39_425);
+    assert_eq!(accepted, 41_915);
+}
+
+/// Equal metrics go to the priors: of the records of ties, which `every_record` has too, as many are answered otherwise than by the
+/// smallest number alone as by the plain detector, and as many with other counts of nodes.
+#[test]
+fn ties_that_priors_decide() {
+    assert_eq!(ties::changed(linked::detect), ties::CHANGED);
 }
 
 /// Four streams of eight bits are refused by 15, ten times under each opening.

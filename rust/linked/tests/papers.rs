@@ -1,12 +1,12 @@
-//! What IEEE 802.11's tables, document 01's readings and first trap, and readings with document 02's W ask for, asked of the proved
-//! library itself: expected answers are worked out from the tables and by hand, not by a Rust detector.
+//! What IEEE 802.11's tables, document 01's readings and first trap, and readings of document 02's W and ties ask for, asked of the
+//! proved library itself: expected answers are worked out from the tables and by hand, not by a Rust detector.
 
 use reference::comparison::expect;
 use reference::format::block::Block;
 use reference::format::reply;
 use reference::inputs::eq_31;
 use reference::inputs::ieee80211::receptions;
-use reference::inputs::readings::{starred, weakened, WEAK_RECORD, WEAK_REPLY};
+use reference::inputs::readings::{starred, tied, weakened, WEAK_RECORD, WEAK_REPLY};
 
 /// Each symbol of each table in each stream, 10 x (2 + 4 + 16 + 64) + 6 x 256 receptions: with C = 4 every value is 4 or -4 by
 /// the sent bit (tests/mapping.rs holds the expected ones to that), and a node a stream is walked.
@@ -36,10 +36,10 @@ fn soft_values_are_those_of_the_tables() {
     }
 }
 
-/// The starred readings, and those with W.
+/// The starred readings, those with W, and those of ties.
 #[test]
 fn the_readings() {
-    for reading in starred().into_iter().chain(weakened()) {
+    for reading in starred().into_iter().chain(weakened()).chain(tied()) {
         let block = Block::of(&reading.contents);
         expect(linked::detect, &block.record(), block.room(), Ok(&reply::encode(&block, &reading.answers)));
     }

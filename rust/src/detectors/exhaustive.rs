@@ -1,4 +1,5 @@
-//! Demand 2 with no tree: every label's metric as a whole, from y less R times the points, and the least of them.
+//! Demand 2 with no tree: every label's metric as a whole, from y less R times the points, and the least of them; on a tie, by document
+//! 02's Point 6, the least prior cost, and only then the smallest number.
 //!
 //! Amplitudes are computed by the Gray rule here and prior costs are taken bit by bit over the label, so that only `Block` is
 //! shared with the detectors.
@@ -10,7 +11,8 @@ pub fn answer(block: &Block, vector: &Vector) -> (usize, Vec<i64>) {
     let label_bits = block.label_bits();
     let metrics: Vec<i64> = (0..1 << label_bits).map(|label| metric(block, vector, label)).collect();
     let least_of_all = *metrics.iter().min().expect("there are labels");
-    let label = metrics.iter().position(|&metric| metric == least_of_all).expect("the least is one of them");
+    let equal = (0..metrics.len()).filter(|&label| metrics[label] == least_of_all);
+    let label = equal.min_by_key(|&label| (prior_cost(block, vector, label), label)).expect("the least is one of them");
     let value = |bit: usize| {
         let with = |wanted: usize| {
             let labels = (0..metrics.len()).filter(|label| label >> (label_bits - 1 - bit) & 1 == wanted);

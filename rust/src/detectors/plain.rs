@@ -1,5 +1,5 @@
-//! The plain detector: document 01 word for word, and 02's 256 points, weak value and distance, for checking others by. What the walk
-//! asks of the leaves walked so far is worked out from their list at every test, and nothing is kept.
+//! The plain detector: document 01 word for word, and 02's 256 points, weak value, distance and ties, for checking others by. What the
+//! walk asks of the leaves walked so far is worked out from their list at every test, and nothing is kept.
 //!
 //! Streams, rows and bits count from 0 here: stream 0 is the paper's stream 1, and bit 0 the label's first and highest.
 
@@ -31,24 +31,29 @@ pub fn answers(block: &Block) -> Vec<Answer> {
     search(block).into_iter().map(|found| found.answer).collect()
 }
 
-/// Searches the vectors in record order: vector k may walk N x D, less the nodes walked before it, less (N - k) x M.
+/// Searches the vectors in record order.
 pub fn search(block: &Block) -> Vec<Found> {
+    search_by(Ties::ByPriors, block)
+}
+
+/// Vector k may walk N x D, less the nodes walked before it, less (N - k) x M.
+pub fn search_by(ties: Ties, block: &Block) -> Vec<Found> {
     let count = block.vectors.len() as i64;
     let mut walked = 0;
     let mut all = Vec::new();
     for (vector, k) in block.vectors.iter().zip(1..) {
         let allowance = count * block.share - walked - (count - k) * block.streams as i64;
-        let found = search_one(block, vector, allowance);
+        let found = search_one(ties, block, vector, allowance);
         walked += found.answer.nodes;
         all.push(found);
     }
     all
 }
 
-fn search_one(block: &Block, vector: &Vector, allowance: i64) -> Found {
-    let mut walk = Walk { block, vector, allowance, nodes: 0, stopped: false, leaves: Vec::new() };
-    walk.below(&[], 0);
-    let best = best(&walk.leaves).expect("an allowance of at least M reaches a leaf");
+fn search_one(ties: Ties, block: &Block, vector: &Vector, allowance: i64) -> Found {
+    let mut walk = Walk { ties, block, vector, allowance, nodes: 0, stopped: false, leaves: Vec::new() };
+    walk.below(&Node::ROOT);
+    let best = walk.best().expect("an allowance of at least M reaches a leaf");
     let empty = if walk.stopped { block.weak } else { block.clip };
     let value = |bit: usize| soft_value(&walk.leaves, block.mask(bit), vector.priors[bit], block.clip, empty);
     let values = (0..block.label_bits()).map(value).collect();
@@ -100,10 +105,10 @@ pub fn point(bits: usize, symbol: usize) -> Complex {
 
 // The metric.
 
-/// Row i's increment, where the streams from i on have these symbols, stream i's first.
-pub fn increment(block: &Block, vector: &Vector, row: usize, symbols: &[usize]) -> i64 {
+/// The two parts of row i's increment, squared distance and prior cost, where the streams from i on have these symbols, stream i's first.
+fn increment(block: &Block, vector: &Vector, row: usize, symbols: &[usize]) -> (i64, i64) {
     let points = symbols.iter().map(|&symbol| point(block.bits, symbol));
-    row_distance(vector, row, points) + prior_cost(block, vector, row, symbols[0])
+    (row_distance(vector, row, points), prior_cost(block, vector, row, symbols[0]))
 }
 
 /// A label's squared distance, which leaves its prior cost out: document 02's Point 5.
@@ -127,18 +132,35 @@ pub fn prior_cost(block: &Block, vector: &Vector, stream: usize, symbol: usize) 
     against.map(|(_, prior)| prior.abs()).sum()
 }
 
+// The order of equal metrics.
+
+/// What goes first of equal metrics, those of labels and those of siblings.
+#[derive(Clone, Copy, Debug, PartialEq, Eq)]
+pub enum Ties {
+    /// The least prior cost, and only then the smallest number: document 02's Point 6.
+    ByPriors,
+    /// The smallest number: document 01 by itself. Tests count by it what Point 6 makes different.
+    ByNumber,
+}
+
+impl Ties {
+    /// What a label rises by, or a sibling with its symbol as the number.
+    fn rank(self, metric: i64, cost: i64, number: usize) -> (i64, i64, usize) {
+        match self {
+            Ties::ByPriors => (metric, cost, number),
+            Ties::ByNumber => (metric, 0, number),
+        }
+    }
+}
+
 // Demand 2 over a set of labels.
 
-/// A label and its metric.
+/// A label, its metric, and the prior cost that the metric has in it.
 #[derive(Clone, Copy, Debug, PartialEq, Eq)]
 pub struct Leaf {
     pub label: usize,
     pub metric: i64,
-}
-
-/// The leaf of the least metric, the smallest label on a tie.
-pub fn best(leaves: &[Leaf]) -> Option<Leaf> {
-    leaves.iter().copied().min_by_key(|leaf| (leaf.metric, leaf.label))
+    pub cost: i64,
 }
 
 /// The least metric over labels whose bit is this, if there is any.
@@ -158,6 +180,7 @@ fn soft_value(leaves: &[Leaf], mask: usize, prior: i64, clip: i64, empty: i64) -
 // The walk.
 
 struct Walk<'a> {
+    ties: Ties,
     block: &'a Block,
     vector: &'a Vector,
     allowance: i64,
@@ -166,52 +189,68 @@ struct Walk<'a> {
     leaves: Vec<Leaf>,
 }
 
+/// A node, or the root: the symbols of the streams chosen, the lowest stream first, their partial metric, and the prior cost in it.
+struct Node {
+    symbols: Vec<usize>,
+    metric: i64,
+    cost: i64,
+}
+
+impl Node {
+    const ROOT: Node = Node { symbols: Vec::new(), metric: 0, cost: 0 };
+}
+
 impl Walk<'_> {
-    /// Walks below a node, or the root: `symbols` of the streams chosen, the lowest stream first, and their partial metric.
-    fn below(&mut self, symbols: &[usize], partial: i64) {
-        if symbols.len() == self.block.streams {
-            self.leaves.push(Leaf { label: self.block.label(symbols), metric: partial });
+    fn below(&mut self, node: &Node) {
+        if node.symbols.len() == self.block.streams {
+            self.leaves.push(Leaf { label: self.block.label(&node.symbols), metric: node.metric, cost: node.cost });
             return;
         }
-        for (metric, child) in self.children(symbols, partial) {
-            if !self.stopped && self.passes(&child, metric) {
-                self.take(&child, metric);
+        for child in self.children(node) {
+            if !self.stopped && self.passes(&child) {
+                self.take(&child);
             }
         }
     }
 
-    /// The children by rising partial metric, equal ones by smaller symbol.
-    fn children(&self, symbols: &[usize], partial: i64) -> Vec<(i64, Vec<usize>)> {
-        let stream = self.block.streams - 1 - symbols.len();
+    /// The children in the order in which they are tried.
+    fn children(&self, node: &Node) -> Vec<Node> {
+        let stream = self.block.streams - 1 - node.symbols.len();
         let child = |symbol: usize| {
-            let chosen = [&[symbol], symbols].concat();
-            (partial + increment(self.block, self.vector, stream, &chosen), chosen)
+            let symbols = [&[symbol], node.symbols.as_slice()].concat();
+            let (distance, cost) = increment(self.block, self.vector, stream, &symbols);
+            Node { symbols, metric: node.metric + distance + cost, cost: node.cost + cost }
         };
         let mut all: Vec<_> = (0..1 << self.block.bits).map(child).collect();
-        all.sort_by_key(|(metric, chosen)| (*metric, chosen[0]));
+        all.sort_by_key(|child| self.ties.rank(child.metric, child.cost, child.symbols[0]));
         all
     }
 
     /// Counts a child that passes and finishes its subtree, or stops where the allowance is walked.
-    fn take(&mut self, child: &[usize], metric: i64) {
+    fn take(&mut self, child: &Node) {
         if self.nodes == self.allowance {
             self.stopped = true;
             return;
         }
         self.nodes += 1;
-        self.below(child, metric);
+        self.below(child);
     }
 
-    /// Does a child of this partial metric pass? Every one does before the first leaf.
-    fn passes(&self, child: &[usize], metric: i64) -> bool {
-        let Some(best) = best(&self.leaves) else {
+    /// The leaf of the label that demand 2 picks from those walked: its metric is B, its label m.
+    fn best(&self) -> Option<Leaf> {
+        self.leaves.iter().copied().min_by_key(|leaf| self.ties.rank(leaf.metric, leaf.cost, leaf.label))
+    }
+
+    /// Does a child pass? Every one does before the first leaf.
+    fn passes(&self, child: &Node) -> bool {
+        let Some(best) = self.best() else {
             return true;
         };
-        let first_chosen = (self.block.streams - child.len()) * self.block.bits;
-        let differing = self.block.label(child) ^ best.label;
+        let first_chosen = (self.block.streams - child.symbols.len()) * self.block.bits;
+        let differing = self.block.label(&child.symbols) ^ best.label;
         let counts = |bit: usize| bit < first_chosen || differing & self.block.mask(bit) != 0;
         let mut bits = 0..self.block.label_bits();
-        metric <= best.metric || bits.any(|bit| counts(bit) && self.is_below_limit(metric, best, bit))
+        child.metric <= best.metric || bits.any(|bit| counts(bit) && self.is_below_limit(child.metric, best, bit))
     }
 
     /// Is a metric below a bit's limit: below U, and below B + C with the prior added or taken off?

@@ -1,6 +1,6 @@
 //! What readers, writers and detectors are tested on: the same in every run.
 //!
-//! - `trials` (records) and `lists` (of numbers): what one is compared with another on, in groups.
+//! - `trials` (records) and `lists` (of numbers): what one is compared with another on, in groups. `ties`: the records of one of them.
 //! - `cases`: the record reader's stored test; `samples`: the records of samples/.
 //! - `readings`, `eq_31` and `ieee80211`: what the papers say themselves, with what they expect.
 //! - `numbers`, `chance` and `channel`: what the others are made with.
@@ -14,6 +14,7 @@ pub mod lists;
 pub mod numbers;
 pub mod readings;
 pub mod samples;
+pub mod ties;
 pub mod trials;
 
 /// Inputs of one kind.

@@ -1,5 +1,5 @@
-//! Document 01's bench readings and its listing, and readings of the same vectors with document 02's W and distances: the records, what
-//! they are answered with, and what is printed of them.
+//! Document 01's bench readings and its listing, and readings of document 02's W, distances and ties: the records, what they are answered
+//! with, and what is printed of them.
 
 use crate::format::block::Block;
 use crate::format::encoding::{Contents, Opening};
@@ -22,6 +22,12 @@ pub fn one_stream(received: i64, prior: i64, clip: i64, share: i64) -> Contents 
 /// M = 2, Q = 1, N = 1.
 pub fn two_streams(clip: i64, share: i64) -> Contents {
     older([[2, 1, 1, clip, share].as_slice(), &TWO_STREAMS].concat())
+}
+
+/// The same with this R_12, a y without imaginary parts, and priors.
+fn two_real(clip: i64, share: i64, right: i64, received: [i64; 2], priors: [i64; 2]) -> Contents {
+    let vector = [1, right, 0, 1, received[0], 0, received[1], 0, priors[0], priors[1]];
+    older([[2, 1, 1, clip, share].as_slice(), &vector].concat())
 }
 
 fn older(numbers: Vec<i64>) -> Contents {
@@ -100,9 +106,82 @@ pub const WEAK_RECORD: [u8; 20] = [
 /// Its reply, byte by byte.
 pub const WEAK_REPLY: [u8; 12] = [0x43, 0x42, 0x53, 0x31, 0x02, 0x01, 0x01, 0x01, 0x04, 0x02, 0x0F, 0x0E];
 
+/// Readings of ties by document 02's Point 6, worked out by hand: equal metrics go to the least prior cost, and only then to the smallest
+/// number. A metric stands here as distance and prior cost.
+pub fn tied() -> [Reading; 22] {
+    [
+        // Labels 0 and 1 have 1 + 8 and 9 + 0.
+        reading(one_stream(-2, -8, 5, 2), [answer(false, 2, 1, [5])]),
+        // The walk begins with label 1.
+        reading(one_stream(-2, -8, 5, 1), [answer(true, 1, 1, [-5])]),
+        reading(weak(one_stream(-2, -8, 5, 1), 3), [answer(true, 1, 1, [-3])]),
+        // The other way round, 9 + 0 and 1 + 8: cost and number agree.
+        reading(one_stream(2, 8, 5, 2), [answer(false, 2, 0, [-5])]),
+        reading(one_stream(2, 8, 5, 1), [answer(true, 1, 0, [5])]),
+        reading(counted(), [answer(false, 4, 0, [1, 1])]),
+        reading(fewer(), [answer(false, 3, 1, [2, -2])]),
+        // The larger number is walked first, and label 2 leaves it in its place.
+        reading(larger_first(6), [answer(false, 5, 3, [0, 4])]),
+        reading(larger_first(4), [answer(true, 4, 3, [0, -10])]),
+        reading(larger_first(2), [answer(true, 2, 3, [-10, -10])]),
+        // The larger number is walked later, and takes label 2's place.
+        reading(larger_later(6), [answer(false, 5, 3, [-4, 4])]),
+        reading(larger_later(4), [answer(true, 4, 3, [-10, 4])]),
+        reading(larger_later(3), [answer(true, 3, 2, [-10, 10])]),
+        reading(weak(larger_later(4), 7), [answer(true, 4, 3, [-7, 4])]),
+        // y = (0, 1), and the prior is positive: labels 0 to 3 have 8 + 0, 0 + 4, 4 + 0 and 4 + 4.
+        reading(two_real(10, 6, 1, [0, 1], [0, 4]), [answer(false, 5, 2, [0, -4])]),
+        reading(whole_cost(6), [answer(false, 5, 3, [-4, 8])]),
+        // y = (-2, 5), R_12 = 3: 40 + 0, 32 + 8, 36 + 4 and 52 + 12. Label 0 takes label 1's place, and label 2 comes after both.
+        reading(two_real(10, 6, 3, [-2, 5], [4, 8]), [answer(false, 5, 0, [-4, -8])]),
+        // y = (0, 1), R_12 = 0: 5 + 0, 1 + 4, 5 + 0 and 1 + 4. Label 3, the last, passes by its metric alone.
+        reading(two_real(10, 6, 0, [0, 1], [0, 4]), [answer(false, 6, 0, [0, -4])]),
+        reading(equal_costs(6), [answer(false, 5, 1, [0, 4])]),
+        reading(equal_costs(2), [answer(true, 2, 1, [10, -10])]),
+        // y = 0: labels 1 and 2 have 1 + 1 each. Label 2 is walked first, and the smaller number takes its place.
+        reading(two_real(10, 6, 1, [0, 0], [1, 1]), [answer(false, 5, 1, [-1, -1])]),
+        reading(two_real(10, 3, 1, [0, 0], [1, 1]), [answer(true, 3, 2, [-4, 10])]),
+    ]
+}
+
+/// Both symbols of stream 2 have 9, 1 + 8 and 9 + 0. The second goes first, so that label 1 (18) is walked before label 0 (10): 4 nodes.
+/// By the smallest number alone the first goes first, and below the second none passes: 3 nodes.
+pub fn counted() -> Contents {
+    two_real(1, 6, 1, [-3, -2], [0, -8])
+}
+
+/// R rows (2, 1 - i), (0, 1), y = (-3i, -1 + 2i), priors -2 and -4: labels 0 to 3 have 35, 15, 25 and 21, and both symbols of stream 2
+/// have 8, 4 + 4 and 8 + 0. The second goes first, and label 1 (15) leaves none to pass below the first: 3 nodes. By the smallest number
+/// alone label 2 (25) is walked, too: 4 nodes.
+pub fn fewer() -> Contents {
+    older(vec![2, 1, 1, 2, 6, 2, 1, -1, 1, 0, -3, -1, 2, -2, -4])
+}
+
+/// Labels 0 to 3 have 9 + 8, 5 + 4, 1 + 4 and 5 + 0; the symbols of stream 2 have 0 + 4 and 4 + 0. The walk has label 3, label 1 and
+/// label 2.
+fn larger_first(share: i64) -> Contents {
+    two_real(10, share, 1, [1, -1], [-4, -4])
+}
+
+/// Labels 0 to 3 have 17 + 4, 13 + 0, 5 + 4 and 9 + 0; the symbols of stream 2 have 1 + 4 and 9 + 0. The walk has label 2, label 3 and
+/// label 1.
+fn larger_later(share: i64) -> Contents {
+    two_real(10, share, 1, [2, -2], [0, -4])
+}
+
+/// Labels 0 to 3 have 1 + 8, 13 + 0, 1 + 12 and 5 + 4: label 3 has the least prior cost, though more of it than label 0 in stream 1.
+fn whole_cost(share: i64) -> Contents {
+    two_real(10, share, -1, [1, -1], [4, -8])
+}
+
+/// Labels 0 to 3 have 9 + 4, 5 + 0, 1 + 4 and 5 + 0: of labels 1 and 3, which have no prior cost, the smaller goes first.
+fn equal_costs(share: i64) -> Contents {
+    two_real(10, share, 1, [1, -1], [0, -4])
+}
+
 /// Records of one vector, and the vector's line in the listing, worked out by hand. The distance is that of the line's label: without
 /// the priors, and whatever the labels have that were not walked.
-pub fn lines() -> [(Contents, &'static str); 9] {
+pub fn lines() -> [(Contents, &'static str); 14] {
     let crossed = older(vec![2, 1, 1, 9, 2, 1, 3, 0, 1, -4, 0, 1, 0, 0, 0]);
     let farthest = older(vec![1, 2, 1, 9, 1, 1, 131_071, 131_071, 0, 0]);
     [
@@ -112,9 +191,14 @@ pub fn lines() -> [(Contents, &'static str); 9] {
         // 9 + 0 and 1 + 10: the nearer label is not the best.
         (one_stream(2, 10, 5, 2), "1 complete 2 0 0 -5 9"),
         (one_stream(2, 10, 5, 1), "1 stopped 1 0 0 5 9"),
-        // 1 + 8 and 9 + 0: a tie, and the label goes against its prior.
-        (one_stream(-2, -8, 5, 2), "1 complete 2 0 1 5 1"),
-        (one_stream(-2, -8, 5, 1), "1 stopped 1 0 1 5 1"),
+        // 1 + 8 and 9 + 0: a tie, which Point 6 gives to label 1. By the smallest number alone it would be label 0, and the distance 1.
+        (one_stream(-2, -8, 5, 2), "1 complete 2 1 0 5 9"),
+        (one_stream(-2, -8, 5, 1), "1 stopped 1 1 0 -5 9"),
+        (counted(), "1 complete 4 0 1 1 1 2"),
+        (fewer(), "1 complete 3 1 1 2 -2 13"),
+        (larger_first(6), "1 complete 5 3 0 0 4 5"),
+        (larger_later(6), "1 complete 5 3 0 -4 4 9"),
+        (whole_cost(6), "1 complete 5 3 1 -4 8 5"),
         // R rows (1, 3), (0, 1), y = (-4, 1): with the second bit 1, label 1 has (-4 + 1 - 3)^2. Label 0, which has 4, is not walked.
         (crossed, "1 stopped 2 1 0 9 -9 36"),
         // 2 x 131,070^2 is more than 32 bits hold.

@@ -44,7 +44,7 @@ fn weaker() -> Contents {
 }
 
 /// The names of the samples that were written by hand, as a text: samples/NAME.numbers is where their numbers come from.
-pub const WRITTEN: [&str; 5] = ["bench", "tie", "points", "distance", "far"];
+pub const WRITTEN: [&str; 6] = ["bench", "tie", "points", "distance", "far", "ties"];
 
 /// The names of the samples that no list of numbers makes, and their bytes; the last has as many as the listing program reads.
 pub fn broken() -> [(&'static str, Vec<u8>); 5] {

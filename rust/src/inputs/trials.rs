@@ -1,12 +1,13 @@
 //! Records that one detector, or reader, is compared with another on, in groups: all sizes M, Q and N, both ends of C, W and D and of
-//! every other number, ties, priors beyond the clip, channels, long walks, stopped ones with W, and damage of every sort.
+//! every other number, ties, also those that priors decide, priors beyond the clip, channels, long walks, stopped ones with W, and damage
+//! of every sort.
 
 use super::cases;
 use super::chance::Chance;
 use super::channel::{any_block, opened, Plan, Sizes};
 use super::numbers::contents_by;
-use super::readings::{starred, two_streams, weakened, LISTING_RECORD};
-use super::{lengths, Group};
+use super::readings::{starred, tied, two_streams, weakened, LISTING_RECORD};
+use super::{lengths, ties as prior_ties, Group};
 use crate::format::block::{Block, SHAPES};
 use crate::format::encoding::{plain, Contents, Opening, Place};
 
@@ -45,12 +46,12 @@ impl Trial {
 }
 
 /// M and Q by turns.
-fn shape(turn: usize) -> (usize, usize) {
+pub(super) fn shape(turn: usize) -> (usize, usize) {
     SHAPES[turn % SHAPES.len()]
 }
 
 /// So many turns of each opening.
-fn of_each_opening(turns: usize) -> impl Iterator<Item = (Opening, usize)> {
+pub(super) fn of_each_opening(turns: usize) -> impl Iterator<Item = (Opening, usize)> {
     Opening::ALL.into_iter().flat_map(move |opening| (0..turns).map(move |turn| (opening, turn)))
 }
 
@@ -307,21 +308,22 @@ pub fn reader_cases() -> impl Iterator<Item = Trial> {
     cases::all().into_iter().map(|case| Trial::of(case.bytes))
 }
 
-/// Document 01's starred readings, their edges, and the listing; and the readings with W.
+/// Document 01's starred readings, their edges, and the listing; and the readings with W and of ties.
 pub fn readings() -> impl Iterator<Item = Trial> {
     let edges = [two_streams(10, 1), two_streams(10, 2), two_streams(16_777_216, 5)];
-    let readings = starred().into_iter().chain(weakened()).map(|reading| reading.contents).chain(edges);
+    let readings = starred().into_iter().chain(weakened()).chain(tied()).map(|reading| reading.contents).chain(edges);
     readings.map(|contents| contents.record()).chain([LISTING_RECORD.to_vec()]).map(Trial::of)
 }
 
 /// The groups, in the order in which a slip is looked for.
 pub fn groups() -> Vec<Group<Trial>> {
     vec![
-        Group::of("readings", (30, 28), readings()),
+        Group::of("readings", (52, 50), readings()),
         Group::of("the record reader's cases", (2_868, 832), reader_cases()),
         Group::of("openings, C, W and D", (1_680, 33), headers()),
         Group::of("weak values", (9_500, 9_500), weak_values()),
         Group::of("ties", (9_500, 9_500), ties()),
+        Group::of("ties that priors decide", (4_940, 4_940), prior_ties::records()),
         Group::of("priors beyond the clip", (9_500, 9_500), priors_beyond_the_clip()),
         Group::of("full range", (9_500, 9_500), full_range()),
         Group::of("ends of ranges", (380, 380), ends()),
@@ -350,7 +352,7 @@ mod tests {
     /// The longest walks do not, and a few of the reader's cases and of the damaged records.
     #[test]
     fn all_but_a_few_suit_the_plain_detector() {
-        assert_eq!(all().count(), 87_515);
-        assert_eq!(all().filter(|trial| trial.suits_plain).count(), 87_180);
+        assert_eq!(all().count(), 92_477);
+        assert_eq!(all().filter(|trial| trial.suits_plain).count(), 92_142);
     }
 }

@@ -14,7 +14,7 @@ use mir.Val.{SFits, toZ, ofZ}
 use mir.Facts.{toZ-ofZ, toZ-pos}
 use Rattle.integers.proofs.Fits.{sfits-abs}
 use Rattle.model.specs.Block.{mostEntry}
-use Rattle.metric.specs.Parts.{span}
+use Rattle.metric.specs.Parts.{remainderBound, span}
 use Rattle.metric.proofs.Folds.{pos-apart}
 use Rattle.metric.proofs.Shifts.{one-shifted}
 use Rattle.bounding.specs.Answers.{reachedBy, bitsOpen, anyBit}
@@ -24,7 +24,7 @@ use Rattle.bounding.proofs.any_bit.Tie as tie
 
 abbrev Inv-loop : tie.InvT-loop
 Inv-loop left diagonal w other low entries from own x₀ i₀ x i =
-    (natAbs (toZ w64 x) < 2 ^ 30)
+    (natAbs (toZ w64 x) < remainderBound)
     × (anyBit (toZ w64 left) diagonal w other low entries from own ≡ bitsOpen diagonal w other low entries from own (w - i) (toZ w64 x))
 
 abbrev μ-loop : tie.MeasureT-loop
@@ -65,13 +65,13 @@ module _ (c : tie.After-magnitude Inv-loop μ-loop) where
   abbrev size : ℕ
   size = c .magnitude .result
 
-  size-small : size < 2 ^ 30
+  size-small : size < remainderBound
   size-small = omega (arith, c .magnitude .ensures, turn .before .loop .inv .0)
 
   -- The first label beyond the fold
   far-small : (size + begin .args .diagonal) * (size + begin .args .diagonal) < 2 ^ 61
   far-small =
-      let h : size + begin .args .diagonal ≤ 2 ^ 30 + mostEntry = omega (arith, size-small, begin .pre .entry) in
+      let h : size + begin .args .diagonal ≤ remainderBound + mostEntry = omega (arith, size-small, begin .pre .entry) in
       omega (arith, mul-le-mul h h)
 
   -- The middle, and what remains after the fold
@@ -83,7 +83,7 @@ module _ (c : tie.After-magnitude Inv-loop μ-loop) where
       let e : begin .args .w - 1 - turn .before .loop .i ≡ begin .args .w - suc (turn .before .loop .i) = omega arith in
       shl-exact 11 _ 64 (omega (arith, begin .pre .entry)) (omega (arith, few turn)) ∙ ap (λ (k : ℕ). begin .args .diagonal * 2 ^ k) e
 
-  middle-small : middle < 2 ^ 30
+  middle-small : middle < remainderBound
   middle-small = omega (arith, middle-is, mul-le-mul (begin .pre .entry) (few turn .2))
 
   -- as it is written
@@ -94,7 +94,7 @@ module _ (c : tie.After-magnitude Inv-loop μ-loop) where
   next-is =
       ap₂ _-ℤ_ (toZ-pos w64 {n = middle} (omega (arith, middle-small))) (toZ-pos w64 {n = size} (omega (arith, size-small)))
 
-  next-small : natAbs next < 2 ^ 30
+  next-small : natAbs next < remainderBound
   next-small = omega (arith, ap natAbs next-is, pos-apart middle size, middle-small, size-small)
 
   next-fits : SFits w64 next
@@ -163,7 +163,7 @@ loop-again : tie.Need-loop-again Inv-loop μ-loop
 loop-again c =
     let l = c .before .before in
     let m = l .before in (
-      subst (λ (z : ℤ). natAbs z < 2 ^ 30) (sym (toZ-ofZ (next-fits m))) (next-small m),
+      subst (λ (z : ℤ). natAbs z < remainderBound) (sym (toZ-ofZ (next-fits m))) (next-small m),
       rw (folded m) (bit-past _ _ _ _ _ _ _ _ _ (x m) (was m) (few (turn m) .0) _ _ (reached-is l) (place-is l) (c .if2 .left)),
     )
 

@@ -7,7 +7,7 @@ use mir.Syntax.{w64}
 use mir.Val.{toZ}
 use mir.Facts.{toZ-ofZ}
 use Rattle.metric.specs.Parts.{span}
-use Rattle.metric.specs.Tables.{tablePart}
+use Rattle.axes.specs.Tables.{tablePart}
 use Rattle.bounding.specs.Answers.{anyPart}
 use Rattle.bounding.proofs.Runs.{labels-few, label-asked, entry-place}
 use Rattle.bounding.proofs.Answers.{part-open, part-past, part-end}

@@ -6,7 +6,7 @@ use native.Mathlib.Omega.{arith}
 use mir.Syntax.{w64}
 use mir.Val.{toZ}
 use mir.Facts.{toZ-ofZ}
-use Rattle.metric.specs.Tables.{tablePart}
+use Rattle.axes.specs.Tables.{tablePart}
 use Rattle.bounding.specs.Answers.{leastPart}
 use Rattle.bounding.proofs.Runs.{labels-few, label-asked}
 use Rattle.bounding.proofs.Answers.{least-next}

@@ -8,7 +8,7 @@ use mir.Syntax.{w32}
 use mir.Val.{SFits}
 use mir.Facts.{toZ-ofZ}
 use Rattle.metric.specs.Parts.{span}
-use Rattle.metric.specs.Tables.{tablePart}
+use Rattle.axes.specs.Tables.{tablePart}
 use Rattle.bounding.proofs.part_at.Statement.{statement}
 use Rattle.bounding.proofs.part_at.Tie as tie
 

@@ -17,8 +17,8 @@ use Rattle.model.specs.Block.{mostEntry}
 use Rattle.model.proofs.Numbers.{first-half}
 use Rattle.metric.specs.Parts.{span, nearestOf, remainderBound}
 use Rattle.metric.specs.Rows.{rowStart}
-use Rattle.metric.specs.Tables.{Axis, axisBits}
-use Rattle.metric.specs.Tables.Axis.{real, imaginary}
+use Rattle.axes.specs.Tables.{Axis, axisBits}
+use Rattle.axes.specs.Tables.Axis.{real, imaginary}
 use Rattle.metric.proofs.Rows.{row-end, square-few, diagonal-within}
 use Rattle.bounding.specs.Answers.{anyBit, opened, someChildMayPass}
 use Rattle.bounding.proofs.Halves.{imaginary-lt, labels, masked}

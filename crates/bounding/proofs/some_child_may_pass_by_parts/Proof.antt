@@ -14,8 +14,8 @@ use mir.Facts.{toZ-ofZ}
 use Rattle.integers.proofs.Fits.{sfits-abs}
 use Rattle.model.proofs.Numbers.{first-half}
 use Rattle.metric.specs.Parts.{span}
-use Rattle.metric.specs.Tables.{Axis, axisPlace, axisBits, tablePart}
-use Rattle.metric.specs.Tables.Axis.{real, imaginary}
+use Rattle.axes.specs.Tables.{Axis, axisPlace, axisBits, tablePart}
+use Rattle.axes.specs.Tables.Axis.{real, imaginary}
 use Rattle.bounding.specs.Axes.{LeastAsked}
 use Rattle.bounding.specs.Answers.{anyPart, leastPart, opened, someChildMayPassByParts}
 use Rattle.bounding.proofs.Halves.{imaginary-lt, labels, masked}

@@ -5,8 +5,8 @@ use native.Mathlib.Omega.{arith}
 use lib.ListN.{length}
 use Rattle.constellation.specs.Points.{Points}
 use Rattle.constellation.proofs.Tables.{points-of}
-use Rattle.search.specs.Limits.{keyPlaces}
-use Rattle.detector.proofs.Steps.{wrote-length, wrote-both}
+use Rattle.search.specs.Nodes.{keyPlaces}
+use Rattle.replies.proofs.Steps.{wrote-length, wrote-both}
 use Rattle.detector.proofs.Held.{width-are, few-streams, few-bits, few-vectors, room-is}
 use Rattle.detector.proofs.Turns.{Answering, reply-is, answering-none, answering-asked, answering-more, answering-all}
 use Rattle.detector.proofs.answer_all.Statement.{statement}

@@ -5,7 +5,7 @@ use native.Mathlib.Omega.{arith}
 use borrow.Author.Needs.{needs}
 use Rattle.detector.proofs.Held.{few-soft, total-fits, allowance-asked, spent-more}
 use Rattle.detector.proofs.Held.{after-length, found-asked, soft-asked, found-count, found-wrote}
-use Rattle.detector.proofs.Steps.{wrote-length}
+use Rattle.replies.proofs.Steps.{wrote-length}
 use Rattle.detector.proofs.answer_one.Statement.{statement}
 use Rattle.detector.proofs.answer_one.Tie as tie
 

@@ -14,8 +14,8 @@ use Rattle.model.specs.Block.{Block}
 use Rattle.block.specs.Contents.{blockOf}
 use Rattle.wire.proofs.Writing.{put-start}
 use Rattle.search.specs.Holds.{Holds}
-use Rattle.detector.specs.Reply.{replyOf, replyRoom}
-use Rattle.detector.proofs.Replies.{reply-room}
+use Rattle.replies.specs.Reply.{replyOf, replyRoom}
+use Rattle.replies.proofs.Replies.{reply-room}
 use Rattle.detector.proofs.Held.{few-streams, few-bits, few-vectors, room-is, room-small}
 use Rattle.detector.proofs.Outcomes.{room-short, room-enough}
 use Rattle.detector.proofs.reply_to.Statement.{statement}

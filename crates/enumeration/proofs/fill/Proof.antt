@@ -1,10 +1,11 @@
 -- The children are measured, and the column with the smallest imaginary part gives the smallest of each row, and is kept for each row.
 use borrow.Author.Needs.{needs}
-use Prim.Native.Nat.{_+_, _-_, _/_, _≤_, _<_, _^_}
+use Prim.Native.Nat.{_+_, _-_, _*_, _/_, _≤_, _<_, _^_}
 use mathlib.Core.Path.{ap, _∙_}
 use native.Mathlib.Omega.{arith}
 use lib.ListN.{length, getD}
 use lib.Pow.{pow-pos, pow-mono}
+use Rattle.metric.specs.Keys.{costRoom}
 use Rattle.metric.specs.Parts.{axisWidth, span}
 use Rattle.metric.proofs.Shifts.{one-shifted}
 use Rattle.metric.proofs.Filled.{from-length}
@@ -27,7 +28,7 @@ column-few c =
 
 base-small : (c : tie.After-least-first)
     → let s = c .before .before .before .before .before .before .before in
-    s .args .partial + getD (s .args .axes .now) (span + c .least-first .result) 0 < 2 ^ 63
+    s .args .partial * costRoom + getD (s .args .axes .now) (span + c .least-first .result) 0 < 2 ^ 63
 base-small c =
     let s = c .before .before .before .before .before .before .before in
     omega (arith, s .pre .1, s .pre .3 (span + c .least-first .result))
@@ -63,7 +64,7 @@ returns c =
     let s = f .before .before .before .before .before .before .before in
     let q = s .args .q in
     let h = s .pre .0 in
-    keys-in q _ _ _ (s .args .partial) (s .args .axes .now) (s .args .keys .now) _ _ _ (f .least-first .result)
+    keys-in q _ _ _ (s .args .partial * costRoom) (s .args .axes .now) (s .args .keys .now) _ _ _ (f .least-first .result)
     (one-shifted q (omega arith)) (one-shifted (q / 2) (omega arith)) (one-shifted (q - q / 2) (omega arith))
     (f .least-first .ensures .0) (f .before .before .before .before .fill-children .ensures .0) (l .fill-least .ensures) (k .fill-least-columns .ensures)
 
@@ -71,7 +72,8 @@ pub fill-spec : {M : Type 1} → statement M
 fill-spec =
     tie.close
     (tie.spec
-    (λ c κs. search needs)
+    (λ c. omega (arith, c .before .pre .1))
+    (λ c κs. let s = c .before .before in (s .pre .0, omega (arith, s .pre .1), s .pre .3, omega (arith, s .pre .4)))
     (λ c. search needs)
     least-first-requires
     (λ c. omega (arith, column-few c))

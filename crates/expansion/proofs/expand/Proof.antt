@@ -1,7 +1,6 @@
 -- The answer is the test's, and the keys are as before, or the children's are filled in.
 use Prim.Native.Nat.{ℕ, _*_, _-_}
 use mathlib.Core.Path.{_≡_, refl, sym, _∙_, ap}
-use native.Mathlib.Omega.{arith}
 use borrow.Author.Needs.{needs}
 use borrow.Author.Tests.{not-true, not-false}
 use mathlib.Core.Bool.{true}
@@ -9,14 +8,15 @@ use mathlib.Core.List.{List}
 use lib.ListN.{replicate}
 use Rattle.model.specs.Constellation.{Complex}
 use Rattle.constellation.specs.Points.{complexOf}
+use Rattle.metric.specs.Keys.{costRoom}
 use Rattle.metric.specs.Parts.{span}
 use Rattle.metric.specs.Rows.{Measured}
-use Rattle.metric.specs.Tables.{partsIn}
+use Rattle.axes.specs.Tables.{partsIn}
 use Rattle.enumeration.specs.Rows.{keysIn}
-use Rattle.metric.proofs.Bridge.{measured-by}
+use Rattle.axes.proofs.Bridge.{measured-by}
 use Rattle.metric.proofs.Filled.{zeros-small}
 use Rattle.expansion.specs.Expand.{mayPassAt, mayPass, keysFor}
-use Rattle.expansion.proofs.Nodes.{room-for, partial-few, row-inside}
+use Rattle.expansion.proofs.Nodes.{room-for, partial-under, row-inside}
 use Rattle.expansion.proofs.expand.Statement.{statement}
 use Rattle.expansion.proofs.expand.Tie as tie
 
@@ -72,7 +72,7 @@ returns-2 c =
       answer = some f;
       keys =
           k .fill .ensures
-          ∙ ap (λ (l : List ℕ). keysIn (a .task .width) (a .node .partial) l old)
+          ∙ ap (λ (l : List ℕ). keysIn (a .task .width) (a .node .partial * costRoom) l old)
           (f .fill-parts .ensures
           ∙ ap (λ (z : Complex). partsIn (a .task .width) (a .tables .now) (a .node .level - 1) (z .re) (z .im) (replicate (2 * span) 0))
           (left f .remainder .ensures .0));
@@ -98,6 +98,6 @@ expand-spec =
     (λ c κs. let r = c .before .before .before in let s = start r in
     (s .pre .node .asked .vector, s .pre .tabled, row-inside (s .pre .node) (s .pre .inner), r .remainder .ensures .1, r .remainder .ensures .2, refl, zeros-small (2 * span)))
     (λ c κs. let f = c .before .before in let s = start (left f) in
-    (s .pre .node .asked .vector .bits, omega (arith, partial-few (s .pre .node)), parts f .size, parts f .small, room-for (s .args .node .level) (s .args .task .width) (s .pre .inner) _ (s .pre .room)))
+    (s .pre .node .asked .vector .bits, partial-under (s .pre .node), parts f .size, parts f .small, room-for (s .args .node .level) (s .args .task .width) (s .pre .inner) _ (s .pre .room)))
     (λ c. search needs)
     returns-2)

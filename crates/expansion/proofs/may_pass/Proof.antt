@@ -10,8 +10,8 @@ use mathlib.Core.Logic.{⊎-elim}
 use lib.Dec.{eqb}
 use lib.ListN.{take, drop}
 use Rattle.metric.specs.Parts.{span}
-use Rattle.metric.specs.Tables.{axisPlace, tablePart}
-use Rattle.metric.specs.Tables.Axis.{real, imaginary}
+use Rattle.axes.specs.Tables.{axisPlace, tablePart}
+use Rattle.axes.specs.Tables.Axis.{real, imaginary}
 use Rattle.bounding.specs.Cut.{OpensAsked}
 use Rattle.bounding.specs.Axes.{pricedBy}
 use Rattle.bounding.specs.Answers.{someChildMayPass, someChildMayPassByParts}

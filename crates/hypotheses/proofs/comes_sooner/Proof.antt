@@ -1,4 +1,6 @@
-use borrow.Author.Tests.{lt-ltb, le-ltb, eq-eqb, ne-eqb}
+-- Where the metrics differ they decide, else the prior costs, else the numbers.
+use mathlib.Core.Path.{sym, _∙_}
+use Rattle.model.proofs.Ranks.{cons-differ, cons-next, cons-last}
 use Rattle.hypotheses.proofs.comes_sooner.Statement.{statement}
 use Rattle.hypotheses.proofs.comes_sooner.Tie as tie
 
@@ -6,6 +8,6 @@ pub comes-sooner-spec : {M : Type 1} → statement M
 comes-sooner-spec =
     tie.close
     (tie.spec
-    (λ c. rw (lt-ltb _ _ (c .if1 .taken)))
-    (λ c. rw (le-ltb _ _ (c .before .if1 .left), eq-eqb _ _ (c .if2 .taken)))
-    (λ c. rw (le-ltb _ _ (c .before .if1 .left), ne-eqb _ _ (c .if2 .left))))
+    (λ c. sym (cons-differ _ _ _ _ (c .before .before .if1 .taken)))
+    (λ c. sym (cons-next _ _ _ _ (c .before .before .before .before .before .if1 .left) ∙ cons-differ _ _ _ _ (c .before .before .if2 .taken)))
+    (λ c. sym (cons-next _ _ _ _ (c .before .before .before .before .before .if1 .left) ∙ cons-next _ _ _ _ (c .before .before .if2 .left) ∙ cons-last _ _)))

@@ -1,7 +1,7 @@
 -- The minima, the best label and the limits are those of the state with the leaf noted.
-use mathlib.Core.Path.{_≡_, sym, ap, _∙_, subst}
+use mathlib.Core.Path.{_≡_, refl, sym, ap, _∙_, subst}
 use mathlib.Core.Bool.{Bool, true, false, cond}
-use mathlib.Core.List.{List}
+use mathlib.Core.List.{List, [], _∷_}
 use borrow.Author.Needs.{needs}
 use borrow.Author.Tests.{not-true, not-false}
 use Prim.Native.Nat.{ℕ, _≤_, _<_, _*_, _^_}
@@ -10,14 +10,17 @@ use lib.Bits.{bitXor, xor-lt}
 use lib.ListN.{length}
 use Rattle.model.specs.Block.{mostBits}
 use Rattle.model.specs.Metric.{Vector, labelBits}
+use Rattle.model.specs.Order.{earlier}
+use Rattle.model.proofs.Ranks.{order-head, earlier-true, earlier-false}
 use Rattle.block.proofs.Places.{rows-count}
 use Rattle.limits.specs.Reach.{limitIn, StandsFor, Reaches, reachesIn}
 use Rattle.limits.proofs.Streams.{reaches}
+use Rattle.search_spec.proofs.Agree.{sooner-kept}
 use Rattle.search_spec.proofs.Minima.{limits-part}
 use Rattle.search_spec.specs.Program.{above, takenIn, limitsOf, keptOf, sooner}
 use Rattle.hypotheses.specs.Limits.{vectorFor, limitAt, minimaSize, OwnLow, Limited, Renewed}
 use Rattle.hypotheses.proofs.Limits.{reached-limited}
-use Rattle.hypotheses.proofs.Leaves.{not-sooner, is-sooner, sides-noted, leaf-noted}
+use Rattle.hypotheses.proofs.Leaves.{sides-noted, leaf-noted}
 use Rattle.hypotheses.proofs.Own.{own-new, own-kept, low-beside}
 use Rattle.hypotheses.proofs.Renewed.{lentLimits, lent-whole, limits-after, renewed, narrowed-whole, narrowed-right, narrowed-stands, after-best, after-other}
 use Rattle.hypotheses.proofs.Values.{bits-are}
@@ -37,6 +40,13 @@ bits s = let a = s .args in bits-are (a .task .streams) (a .task .width) (a .tas
 few : (s : tie.Start) → s .args .task .streams * s .args .task .width ≤ mostBits
 few s = s .pre .0 .vector .label
 
+-- The test is by the labels' own prior costs
+test : (s : tie.Start)
+    → let a = s .args in
+    earlier (a .leaf .partial ∷ a .leaf .cost ∷ a .leaf .bits ∷ []) (a .kept .best ∷ a .kept .cost ∷ a .kept .label ∷ [])
+    ≡ sooner (v s) (a .leaf .partial) (a .leaf .bits) (a .kept .best) (a .kept .label)
+test s = sooner-kept (v s) _ _ _ _ _ _ (s .pre .1) (s .pre .5) (s .pre .6 .cost-is)
+
 -- What is kept after the call, from what its steps say
 limited : (s : tie.Start) (label best : ℕ) (mid after : List ℕ) → label < 2 ^ (s .args .task .streams * s .args .task .width)
     → OwnLow (v s) (takenIn label best mid) → Renewed (v s) label best mid after → Limited (v s) (takenIn label best after) (limitsOf after)
@@ -49,11 +59,11 @@ module _ (t : tie.Then1) where
   begin = t .before .before .before .before
 
   later : let a = begin .args in
-      sooner (a .leaf .partial) (a .leaf .bits) (a .kept .best) (a .kept .label) ≡ false
-  later = sym (t .before .comes-sooner .ensures) ∙ not-true _ (t .if1 .taken)
+      sooner (v begin) (a .leaf .partial) (a .leaf .bits) (a .kept .best) (a .kept .label) ≡ false
+  later = sym (test begin) ∙ sym (t .before .comes-sooner .ensures) ∙ not-true _ (t .if1 .taken)
 
   lowest : begin .args .kept .best ≤ begin .args .leaf .partial
-  lowest = let a = begin .args in not-sooner (a .leaf .partial) (a .leaf .bits) (a .kept .best) (a .kept .label) later
+  lowest = order-head (earlier-false _ _ refl later)
 
   -- so there is one: its own sides are low, and the limits are right
   there : begin .args .kept .best < above
@@ -158,10 +168,10 @@ returns-2 c =
     let t = m .before .before in
     let s = t .before .before .before .before in
     let a = s .args in
-    let first : sooner (a .leaf .partial) (a .leaf .bits) (a .kept .best) (a .kept .label) ≡ true =
-    sym (t .before .comes-sooner .ensures) ∙ not-false _ (t .if1 .left) in
+    let first : sooner (v s) (a .leaf .partial) (a .leaf .bits) (a .kept .best) (a .kept .label) ≡ true =
+    sym (test s) ∙ sym (t .before .comes-sooner .ensures) ∙ not-false _ (t .if1 .left) in
     let label = ap (λ (b : Bool). cond b (a .leaf .bits) (a .kept .label)) (sym first) in
-    let low = is-sooner (a .leaf .partial) (a .leaf .bits) (a .kept .best) (a .kept .label) first in (
+    let low : a .leaf .partial ≤ a .kept .best = order-head (earlier-true _ _ first) in (
       ap (keptOf (a .kept .count) (a .kept .stopped))
           (leaf-noted (a .kept .label) (a .kept .best) (bits s) (m .note .ensures .0) label (omega (arith, low)) (r .renew-limits .ensures .0)),
       r .renew-limits .ensures .1

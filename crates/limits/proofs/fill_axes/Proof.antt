@@ -3,8 +3,8 @@ use borrow.Author.Needs.{needs}
 use mathlib.Core.Path.{_∙_}
 use native.Mathlib.Omega.{arith}
 use lib.Pow.{pow-mono}
-use Rattle.metric.specs.Tables.Axis.{real, imaginary}
-use Rattle.metric.proofs.Tables.{axis-few}
+use Rattle.axes.specs.Tables.Axis.{real, imaginary}
+use Rattle.axes.proofs.Tables.{axis-few}
 use Rattle.limits.proofs.Streams.{axes-stand, axes-are}
 use Rattle.limits.proofs.fill_axes.Statement.{statement}
 use Rattle.limits.proofs.fill_axes.Tie as tie

@@ -9,7 +9,7 @@ use lib.ListN.{getD}
 use lib.Bits.{bitAnd, and-mask}
 use lib.Pow.{pow-pos, pow-mono}
 use Rattle.metric.specs.Parts.{axisWidth, span}
-use Rattle.metric.specs.Tables.Axis.{real, imaginary}
+use Rattle.axes.specs.Tables.Axis.{real, imaginary}
 use Rattle.metric.proofs.Shifts.{one-shifted}
 use Rattle.limits.specs.Reach.{entryPlace, streamReach}
 use Rattle.limits.proofs.stream_reach.Statement.{statement}

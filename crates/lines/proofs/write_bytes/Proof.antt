@@ -3,7 +3,7 @@ use Prim.Native.Nat.{_+_, _-_, _≤_}
 use mathlib.Core.Path.{_≡_, refl, _∙_}
 use native.Mathlib.Omega.{arith}
 use lib.ListN.{length, drop, length-set}
-use Rattle.detector.proofs.Steps.{Left, left-all}
+use Rattle.replies.proofs.Steps.{Left, left-all}
 use Rattle.lines.proofs.Pieces.{left-byte, bytes-all}
 use Rattle.lines.proofs.write_bytes.Statement.{statement}
 use Rattle.lines.proofs.write_bytes.Tie as tie

@@ -3,7 +3,7 @@ use Prim.Native.Nat.{_≤_}
 use native.Mathlib.Omega.{arith}
 use borrow.Author.Needs.{needs}
 use lib.ListN.{length}
-use Rattle.detector.proofs.Steps.{wrote-length}
+use Rattle.replies.proofs.Steps.{wrote-length}
 use Rattle.lines.specs.Text.{blank, decimalOf}
 use Rattle.lines.proofs.Decimals.{decimal-most}
 use Rattle.lines.proofs.Pieces.{wrote-field}

@@ -4,7 +4,7 @@ use mathlib.Core.Path.{ap}
 use mathlib.Core.List.{_++_, append-assoc}
 use native.Mathlib.Omega.{arith}
 use borrow.Author.Needs.{needs}
-use Rattle.detector.proofs.Steps.{wrote-both}
+use Rattle.replies.proofs.Steps.{wrote-both}
 use Rattle.lines.specs.Text.{blank, decimalOf, field, stateWord, vectorLine}
 use Rattle.lines.proofs.Pieces.{wrote-same}
 use Rattle.lines.proofs.write_line.Statement.{statement}

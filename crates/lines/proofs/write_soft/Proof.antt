@@ -9,7 +9,7 @@ use mir.Syntax.{w32}
 use mir.Val.{SFits}
 use mir.Facts.{toZ-ofZ}
 use Rattle.wire.specs.Writing.{Wrote}
-use Rattle.detector.proofs.Steps.{Left, left-all, wrote-length}
+use Rattle.replies.proofs.Steps.{Left, left-all, wrote-length}
 use Rattle.lines.specs.Text.{softText, valueText}
 use Rattle.lines.proofs.Pieces.{softLeft, left-value, values-all}
 use Rattle.lines.proofs.write_soft.Statement.{statement}

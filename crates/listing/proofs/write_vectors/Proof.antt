@@ -5,7 +5,7 @@ use native.Mathlib.Omega.{arith}
 use lib.ListN.{length}
 use Rattle.constellation.specs.Points.{Points}
 use Rattle.constellation.proofs.Tables.{points-of}
-use Rattle.search.specs.Limits.{keyPlaces}
+use Rattle.search.specs.Nodes.{keyPlaces}
 use Rattle.detector.proofs.Held.{width-are}
 use Rattle.listing.specs.Steps.{VectorsAsked}
 use Rattle.listing.proofs.Lines.{Listing, listing-none, listing-asked, listing-more, listing-all}

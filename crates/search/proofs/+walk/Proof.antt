@@ -18,22 +18,23 @@ use Rattle.search_spec.proofs.Minima.{limits-part, limits-length}
 use Rattle.enumeration.specs.Rows.{keyCount}
 use Rattle.hypotheses.specs.Limits.{vectorFor, minimaSize}
 use Rattle.expansion.specs.Expand.{Filled}
-use Rattle.search.specs.Turn.{behind, nextOf, AdvanceAsked, Advanced, Renewal, NodeAsked}
+use Rattle.search.specs.Nodes.{Renewal, NodeAsked}
+use Rattle.turn.specs.Turn.{behind, nextOf, AdvanceAsked, Advanced}
 use Rattle.tree.specs.declared.Kept.{Kept as Held}
 use Rattle.tree.specs.declared.Node.{Node}
-use Rattle.search.specs.declared.Turn.{Turn}
-use Rattle.search.specs.declared.Turn.the-variants.{Ended, Cut, Stop, Left, Leaf, Enter}
+use Rattle.turn.specs.declared.Turn.{Turn}
+use Rattle.turn.specs.declared.Turn.the-variants.{Ended, Cut, Stop, Left, Leaf, Enter}
 use Rattle.expansion.proofs.Nodes.{room-for, partial-under, leaf-placed, kids-few}
 use Rattle.search.proofs.Search.{Searching, leaf-noted, places-few, start, limits-asked, next-asked}
 use Rattle.search.proofs.Search.{done, ended, halts, cut, past, child-asked, child-in, stops, onward, onward-here}
-use Rattle.search.proofs.Best.{best-same, best-after}
+use Rattle.search.proofs.Best.{best-same, leaf-cost, best-after}
 use Rattle.search.proofs.walk.Reads as walk
 use Rattle.search.proofs.walk.Kinds as walk-kinds
 use Rattle.search.proofs.+walk.Lts-walk as walk-lts
-use Rattle.search.proofs.advance.Reads as advance-reads
+use Rattle.turn.proofs.advance.Reads as advance-reads
 use Rattle.search.proofs.counted.Reads as counted-reads
 use Rattle.search.proofs.halted.Reads as halted-reads
-use Rattle.search.proofs.key_places.Reads as key-places-reads
+use Rattle.turn.proofs.key_places.Reads as key-places-reads
 use Rattle.search.proofs.renew_node.Reads as renew-node-reads
 use Rattle.hypotheses.proofs.take.Reads as take-reads
 use Rattle.search.proofs.+walk.{statement}
@@ -52,7 +53,7 @@ abbrev Inv : walk-lts.InvT-loop
 Inv task points numbers tables minima₀ keys₀ places n k₀ parent₀ tried₀ minima keys k parent tried =
     (n ≡ 2 ^ task .width) × (places ≡ keyCount (task .width)) × (length minima ≡ minimaSize) × (length keys ≡ length keys₀)
     × (parent .level ≡ parent₀ .level)
-    × Searching (task .streams) (task .width) (task .clip) numbers tables (task .allowance) parent
+    × Searching (task .streams) (task .width) (task .clip) numbers (task .allowance) parent
     (below (vectorFor task numbers) (task .allowance) (parent₀ .level) (parent₀ .bits) (parent₀ .partial)
     (keptOf (k₀ .count) false (takenIn (k₀ .label) (k₀ .best) minima₀))) tried keys
     (keptOf (k .count) (k .stopped) (takenIn (k .label) (k .best) minima)) (limitsOf minima) × (tried ≤ n) × BestParts (vectorFor task numbers) k
@@ -89,7 +90,7 @@ module _ (t : ℕ) (c : walk-lts.After-advance (calls t) (walk-at t) walk.Post I
   -- The state before it
   searching : let a = begin .args in
       let l = loop .loop in
-      Searching (a .task .streams) (a .task .width) (a .task .clip) (a .numbers .now) (a .tables .now) (a .task .allowance) (l .parent)
+      Searching (a .task .streams) (a .task .width) (a .task .clip) (a .numbers .now) (a .task .allowance) (l .parent)
       (below (vectorFor (a .task) (a .numbers .now)) (a .task .allowance) (a .node .level) (a .node .bits) (a .node .partial)
       (keptOf (a .kept .count) false (takenIn (a .kept .label) (a .kept .best) (a .minima .now)))) (l .tried) (l .keys)
       (keptOf (l .k .count) (l .k .stopped) (takenIn (l .k .label) (l .k .best) (l .minima))) (limitsOf (l .minima))
@@ -100,7 +101,7 @@ module _ (t : ℕ) (c : walk-lts.After-advance (calls t) (walk-at t) walk.Post I
 
   -- The child that it takes
   abbrev next : Node
-  next = nextOf (begin .args .task .streams) (begin .args .task .width) (loop .loop .parent) (loop .loop .k .label) (begin .args .tables .now) (limitsOf (loop .loop .minima)) (loop .loop .keys)
+  next = nextOf (begin .args .task .streams) (begin .args .task .width) (loop .loop .parent) (loop .loop .k .label) (limitsOf (loop .loop .minima)) (loop .loop .keys)
 
   -- The keys after it
   abbrev after : List ℕ
@@ -111,11 +112,11 @@ module _ (t : ℕ) (c : walk-lts.After-advance (calls t) (walk-at t) walk.Post I
 
   -- What it came to
   abbrev CameTo : Turn → Type 0
-  CameTo r = Advanced (begin .args .task) (begin .args .numbers .now) (begin .args .tables .now) (loop .loop .parent) (loop .loop .k) (limitsOf (loop .loop .minima)) (loop .loop .keys) after r
+  CameTo r = Advanced (begin .args .task) (begin .args .numbers .now) (loop .loop .parent) (loop .loop .k) (limitsOf (loop .loop .minima)) (loop .loop .keys) after r
 
   came-to : CameTo (c .advance .result)
   came-to =
-      subst (λ (limits : List ℕ). Advanced (begin .args .task) (begin .args .numbers .now) (begin .args .tables .now) (loop .loop .parent) (loop .loop .k) limits (loop .loop .keys) after (c .advance .result))
+      subst (λ (limits : List ℕ). Advanced (begin .args .task) (begin .args .numbers .now) (loop .loop .parent) (loop .loop .k) limits (loop .loop .keys) after (c .advance .result))
       (limits-part (loop .loop .minima)) (c .advance .ensures)
 
   answers : (r : Turn) → c .advance .result ≡ r → CameTo r
@@ -265,7 +266,7 @@ pub +walk-spec : {M : Type 1} → statement M
       s .pre .1 .3,
       refl,
       refl,
-      start (w .node) (s .pre .1 .5) _ _ (w .lowest) (w .limited) (w .opposed) _ _ (w .room) (s .pre .1 .6) _ _ (s .pre .1 .1) (s .pre .1 .2),
+      start (w .node) (s .pre .1 .5) _ _ (w .lowest) (w .limited) (w .opposed) _ _ (w .room) (s .pre .1 .6) _ _ (s .pre .1 .1),
       omega arith,
       s .pre .1 .7,
     ))
@@ -305,6 +306,8 @@ pub +walk-spec : {M : Type 1} → statement M
       l .inv .2,
       subst (λ (n : Node). n .bits < 2 ^ (begin t a .args .task .streams * begin t a .args .task .width)) (sym (r .1)) (leaf-placed (child-in h (more t a)) (r .2)),
       rw (c .before .counted2 .ensures .2, c .before .counted2 .ensures .3) (h .limited),
+      leaf-cost _ (r .1) (r .2) (child-in h (more t a) .parts),
+      (let e = c .before .counted2 .ensures in best-same _ (e .3) (e .2) (e .4) (e .5) (l .inv .7)),
     ))
     (λ c. omega (arith, c .before .before .take .ensures .3))
     (λ c. omega (arith, c .before .before .before .take .ensures .3))
@@ -378,7 +381,7 @@ pub +walk-spec : {M : Type 1} → statement M
       then-length t w ∙ after-length t a ∙ l .inv .3,
       x .14 .ensures .level-is ∙ l .inv .4,
       subst
-          (λ (keys : List ℕ). Searching (s .args .task .streams) (s .args .task .width) (s .args .task .clip) (s .args .numbers .now) (s .args .tables .now) (s .args .task .allowance) (x .14 .result)
+          (λ (keys : List ℕ). Searching (s .args .task .streams) (s .args .task .width) (s .args .task .clip) (s .args .numbers .now) (s .args .task .allowance) (x .14 .result)
           (below (vectorFor (s .args .task) (s .args .numbers .now)) (s .args .task .allowance) (s .args .node .level) (s .args .node .bits) (s .args .node .partial)
           (keptOf (s .args .kept .count) false (takenIn (s .args .kept .label) (s .args .kept .best) (s .args .minima .now)))) (l .tried + 1) keys
           (kept t w) (limitsOf (x .6 .last .1 .1 .1 .1 .1 .1 .0))) (sym (then-is t w))

@@ -7,12 +7,12 @@ use lib.ListN.{length, replicate}
 use Rattle.constellation.specs.Points.{complexOf}
 use Rattle.metric.specs.Parts.{span}
 use Rattle.metric.specs.Rows.{Measured}
-use Rattle.metric.proofs.Bridge.{measured-by}
+use Rattle.axes.proofs.Bridge.{measured-by}
 use Rattle.metric.proofs.Filled.{zeros-small}
 use Rattle.enumeration.specs.Rows.{keyCount}
 use Rattle.enumeration.proofs.Filling.{placed}
 use Rattle.expansion.proofs.Kids.{filled-in}
-use Rattle.expansion.proofs.Nodes.{room-for, partial-few, row-inside}
+use Rattle.expansion.proofs.Nodes.{room-for, partial-under, row-inside}
 use Rattle.search.proofs.begin.Statement.{statement}
 use Rattle.search.proofs.begin.Tie as tie
 
@@ -73,7 +73,7 @@ begin-spec =
     (λ c κs. let r = c .before in let s = start r in
     (s .pre .0 .node .asked .vector, s .pre .3, row-inside (s .pre .0 .node) (s .pre .1), r .remainder .ensures .1, r .remainder .ensures .2, refl, zeros-small (2 * span)))
     (λ c κs. let f = c .before .before in let s = start (left f) in let w = s .pre .0 in
-    (w .node .asked .vector .bits, omega (arith, partial-few (w .node)), parts f .size, parts f .small, room s))
+    (w .node .asked .vector .bits, partial-under (w .node), parts f .size, parts f .small, room s))
     walk-requires
     (λ c. search needs)
     (λ c. search needs)

@@ -6,8 +6,8 @@ use native.Mathlib.Nat.{le-trans}
 use lib.IntN.{ℤ}
 use Rattle.model.specs.Block.{mostBits}
 use Rattle.model.proofs.Weak.{empty-most}
-use Rattle.metric.specs.Tables.{Tabled}
-use Rattle.metric.proofs.Tables.{rows-tabled}
+use Rattle.axes.specs.Tables.{Tabled}
+use Rattle.axes.proofs.Tables.{rows-tabled}
 use Rattle.hypotheses.specs.Limits.{vectorFor}
 use Rattle.search_spec.specs.Program.{keptOf, takenIn, fresh, below}
 use Rattle.search.proofs.Values.{keys-many, root-asked, end-low, end-answered}

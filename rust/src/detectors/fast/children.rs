@@ -1,32 +1,42 @@
 //! A node's children in order, found as far as they are asked for.
+//!
+//! The order is by metric, then prior cost, then symbol; siblings share their parent's cost, so that their own symbols' costs count. A
+//! key has metric, cost and axis label in 64 bits, and keys rise in this order.
+//!
+//! - On the imaginary axis, where a part is below 2^37, the label stands below all of the cost.
+//! - A row's key has a metric of up to 39 bits, and the row in place of its last four bits, where the last two of the cost were. Siblings
+//!   of equal metric have these in common: a residual stays odd or even whatever the point is, so that siblings' squared distances are
+//!   the same modulo 4, and with equal metrics their costs, too.
 
-use super::axis::{key, key_label, key_number, least, FAR};
+use super::axis::{least, metric, Packed};
 use std::array::from_fn;
 
-/// The head of a row with no child left: above every key.
-const EXHAUSTED: i64 = FAR * 64;
+/// A part, or a child, and its axis label.
+type Key = u64;
 
-/// The children by rising metric, equal ones by smaller symbol. A row's children, those of one real-axis label, come in the order of
-/// the imaginary axis.
+/// Above every key; also as a metric, above every limit.
+const EXHAUSTED: Key = Key::MAX;
+
+/// The children in order. A row's children, those of one real-axis label, come in the order of the imaginary axis.
 pub struct Children<const A: usize, const B: usize> {
     /// The rows' parts, and the parent's metric in each.
-    re: [i64; A],
+    re: [Packed; A],
     /// Keys of the imaginary axis' parts and labels that are not yet in order.
-    im: [i64; B],
+    im: [Key; B],
     im_fours: Fours,
     /// Those that are in order, and how many.
-    order: [i64; B],
+    order: [Key; B],
     known: usize,
     /// How many children of each row have been tried.
     tried: [u8; A],
-    /// Each row's next child, as a key of its metric and row.
-    heads: [i64; A],
+    /// Each row's next child.
+    heads: [Key; A],
     head_fours: Fours,
 }
 
 /// Of an axis of sixteen labels, the least key of each four, so that after a change the least of all is found among eight. Shorter axes
 /// have no use for it.
-type Fours = [i64; 4];
+type Fours = [Key; 4];
 
 /// A child: its partial metric and its two axis labels.
 #[derive(Clone, Copy)]
@@ -38,13 +48,12 @@ pub struct Child {
 
 impl<const A: usize, const B: usize> Children<A, B> {
     #[inline(always)]
-    pub fn new(re: [i64; A], im: [i64; B]) -> Self {
-        let mut im = from_fn(|label| key::<B>(im[label], label));
+    pub fn new(re: [Packed; A], im: [Packed; B]) -> Self {
+        let mut im = from_fn(|label| im[label] << 2 | label as Key);
         let mut im_fours = fours(&im);
         let mut order = [0; B];
         order[0] = take_least(&mut im, &mut im_fours);
-        let first = key_number::<B>(order[0]);
-        let heads = from_fn(|row| key::<A>(re[row] + first, row));
+        let heads = from_fn(|row| head(re[row], order[0], row));
         Children { re, im, im_fours, order, known: 1, tried: [0; A], head_fours: fours(&heads), heads }
     }
 
@@ -52,9 +61,9 @@ impl<const A: usize, const B: usize> Children<A, B> {
     #[inline(always)]
     pub fn next(&self) -> Child {
         let head = least_key(&self.heads, &self.head_fours);
-        let row = key_label::<A>(head);
-        let column = key_label::<B>(self.order[usize::from(self.tried[row]) & (B - 1)]);
-        Child { metric: key_number::<A>(head), row, column }
+        let row = label::<A>(head);
+        let column = label::<B>(self.order[usize::from(self.tried[row]) & (B - 1)]);
+        Child { metric: metric(head), row, column }
     }
 
     /// Goes on to the next child of a row.
@@ -70,21 +79,33 @@ impl<const A: usize, const B: usize> Children<A, B> {
             self.order[place & (B - 1)] = take_least(&mut self.im, &mut self.im_fours);
             self.known += 1;
         }
-        let head = key::<A>(self.re[row] + key_number::<B>(self.order[place & (B - 1)]), row);
+        let head = head(self.re[row], self.order[place & (B - 1)], row);
         put(&mut self.heads, &mut self.head_fours, row, head);
     }
 }
 
+/// The key of a row's child, by the row's part and the key of the imaginary axis.
+#[inline(always)]
+fn head(re: Packed, im: Key, row: usize) -> Key {
+    re + (im >> 2) & !15 | row as Key
+}
+
+/// A key's axis label.
+#[inline(always)]
+fn label<const N: usize>(key: Key) -> usize {
+    key as usize & (N - 1)
+}
+
 /// Takes the least key out of those left.
 #[inline(always)]
-fn take_least<const N: usize>(left: &mut [i64; N], fours_left: &mut Fours) -> i64 {
+fn take_least<const N: usize>(left: &mut [Key; N], fours_left: &mut Fours) -> Key {
     let key = least_key(left, fours_left);
-    put(left, fours_left, key_label::<N>(key), FAR);
+    put(left, fours_left, label::<N>(key), EXHAUSTED);
     key
 }
 
 #[inline(always)]
-fn fours<const N: usize>(keys: &[i64; N]) -> Fours {
+fn fours<const N: usize>(keys: &[Key; N]) -> Fours {
     if N == 16 {
         from_fn(|four| least_of_four(keys, 4 * four))
     } else {
@@ -93,7 +114,7 @@ fn fours<const N: usize>(keys: &[i64; N]) -> Fours {
 }
 
 #[inline(always)]
-fn least_key<const N: usize>(keys: &[i64; N], fours: &Fours) -> i64 {
+fn least_key<const N: usize>(keys: &[Key; N], fours: &Fours) -> Key {
     if N == 16 {
         least(fours)
     } else {
@@ -102,7 +123,7 @@ fn least_key<const N: usize>(keys: &[i64; N], fours: &Fours) -> i64 {
 }
 
 #[inline(always)]
-fn put<const N: usize>(keys: &mut [i64; N], fours: &mut Fours, label: usize, key: i64) {
+fn put<const N: usize>(keys: &mut [Key; N], fours: &mut Fours, label: usize, key: Key) {
     keys[label] = key;
     if N == 16 {
         fours[(label / 4) & 3] = least_of_four(keys, label & 12);
@@ -111,6 +132,6 @@ fn put<const N: usize>(keys: &mut [i64; N], fours: &mut Fours, label: usize, key
 
 /// The least of the four keys from this label on.
 #[inline(always)]
-fn least_of_four(keys: &[i64], first: usize) -> i64 {
+fn least_of_four(keys: &[Key], first: usize) -> Key {
     keys[first + 1].min(keys[first]).min(keys[first + 2].min(keys[first + 3]))
 }

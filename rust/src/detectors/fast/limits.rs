@@ -88,7 +88,7 @@ impl<const A: usize, const B: usize> Limits<A, B> {
     /// in all of them.
     #[inline(never)]
     pub fn add_leaf(&mut self, metric: i64, label: u32) {
-        if metric < self.best || (metric == self.best && label < self.label) {
+        if metric < self.best || (metric == self.best && self.goes_before_best(label)) {
             self.add_best(metric, label);
         } else {
             self.add_other(metric, label ^ self.label);
@@ -99,6 +99,20 @@ impl<const A: usize, const B: usize> Limits<A, B> {
             self.below[stream] = below;
             below = below.max(self.of_stream[stream]);
         }
+    }
+
+    /// Does a label of m's metric go before m? The bits in which they differ say by how much its prior cost is more than m's.
+    #[inline(never)]
+    fn goes_before_best(&self, label: u32) -> bool {
+        let mut left = label ^ self.label;
+        let mut more = 0;
+        while left != 0 {
+            let place = left.trailing_zeros() as usize;
+            let prior = self.priors[place];
+            more += if label >> place & 1 == 1 { prior } else { -prior };
+            left &= left - 1;
+        }
+        more < 0 || (more == 0 && label < self.label)
     }
 
     /// A new m. A bit that it flips has the old B as U, the least of all before. Any other keeps its U; and as B only falls, the

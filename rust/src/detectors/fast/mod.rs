@@ -1,7 +1,8 @@
 //! The fast detector: the same replies as `plain`'s by the same walk, as quickly as safe Rust by hand does it.
 //!
 //! - A child's increment is a real-axis part plus an imaginary-axis part, each (e - R a)^2 and the axis' prior cost. The part of
-//!   an axis label is `table - 2 R e a + e^2`, with (R a)^2 and the prior cost in the table, made once a vector.
+//!   an axis label is `table - 2 R e a + e^2`, with (R a)^2 and the prior cost in the table, made once a vector. The prior cost
+//!   stands once more in the low bits of each part, where it decides between equal metrics.
 //! - Children come in order from the heads of rows, one row for each real-axis label; the imaginary axis is put in order only as
 //!   far as it is needed.
 //! - Of the walked leaves, the least metric, its label, each bit's limit and the bits in which they differ are kept, and of the limits

@@ -1,6 +1,6 @@
 //! One vector's walk.
 
-use super::axis::{amplitudes, largest, least_part, nearest, parts, table};
+use super::axis::{amplitudes, largest, least_part, metric, nearest, parts, table, Packed};
 use super::children::{Child, Children};
 use super::limits::{Limits, NEVER};
 use super::Reply;
@@ -18,9 +18,12 @@ pub struct Search<const A: usize, const B: usize> {
     /// right[i][j]: R's entry right of the diagonal.
     right: [[Pair; 4]; 4],
     /// (R a)^2 and prior cost, for each axis label of each stream.
-    re_table: [[i64; A]; 4],
-    im_table: [[i64; B]; 4],
-    /// Stream 0's tables less its `against`: a leaf's metric less its limit follows from them.
+    re_table: [[Packed; A]; 4],
+    im_table: [[Packed; B]; 4],
+    /// Of stream 0's tables the sums alone.
+    re_leaf: [i64; A],
+    im_leaf: [i64; B],
+    /// The same less stream 0's `against`: a leaf's metric less its limit follows from them.
     re_less: [i64; A],
     im_less: [i64; B],
     /// Whether any prior of stream 0's bits is not 0.
@@ -51,6 +54,8 @@ impl<const A: usize, const B: usize> Search<A, B> {
             right: [[(0, 0); 4]; 4],
             re_table: [[0; A]; 4],
             im_table: [[0; B]; 4],
+            re_leaf: [0; A],
+            im_leaf: [0; B],
             re_less: [0; A],
             im_less: [0; B],
             has_leaf_priors: false,
@@ -101,6 +106,8 @@ impl<const A: usize, const B: usize> Search<A, B> {
         self.re_table[stream] = table(self.diagonal[stream], first_half);
         if stream == 0 {
             self.has_leaf_priors = own.iter().any(|&prior| prior != 0);
+            self.re_leaf = self.re_table[0].map(metric);
+            self.im_leaf = self.im_table[0].map(metric);
         }
     }
 
@@ -238,8 +245,8 @@ impl<const A: usize, const B: usize> Search<A, B> {
             return true;
         }
         let twice = 2 * self.diagonal[0];
-        let re = least_part(&self.re_table[0], twice * e.0) + e.0 * e.0;
-        let im = least_part(&self.im_table[0], twice * e.1) + e.1 * e.1;
+        let re = least_part(&self.re_leaf, twice * e.0) + e.0 * e.0;
+        let im = least_part(&self.im_leaf, twice * e.1) + e.1 * e.1;
         self.some_leaf_is_below(node.metric, e, (re, im), base)
     }
 
@@ -274,8 +281,8 @@ impl<const A: usize, const B: usize> Search<A, B> {
 
     fn make_less(&mut self) {
         let (against_re, against_im) = (&self.limits.against_re[0], &self.limits.against_im[0]);
-        self.re_less = from_fn(|label| self.re_table[0][label] - against_re[label]);
-        self.im_less = from_fn(|label| self.im_table[0][label] - against_im[label]);
+        self.re_less = from_fn(|label| self.re_leaf[label] - against_re[label]);
+        self.im_less = from_fn(|label| self.im_leaf[label] - against_im[label]);
         self.largest_against = (largest(against_re), largest(against_im));
     }
 }

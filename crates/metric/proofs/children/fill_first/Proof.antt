@@ -22,11 +22,11 @@ rows-few q k n e h =
     (div-lt-iff-lt-mul (pow-pos (q / 2)) .1
     (omega (arith, rows-all q, suc-mul (2 ^ (q - q / 2)) (2 ^ (q / 2)), pow-pos (q / 2)))))
 
-first-is : (q partial : ℕ) (axes : List ℕ) (k n : ℕ) (keys mid after : List ℕ) → n ≡ 2 ^ (q / 2)
-    → mid ≡ measuredTo q partial axes (k / n * 2 ^ (q / 2)) keys
-    → after ≡ filledFrom (k / n * n) (rowMetric (partial + realIn axes (k / n)) axes) (k % n) mid → after ≡ measuredTo q partial axes k keys
-first-is q partial axes k n keys mid after e em ea =
-    ea ∙ ap (filledFrom (k / n * n) (rowMetric (partial + realIn axes (k / n)) axes) (k % n)) em ∙ rw e (row-reached q partial axes k keys)
+first-is : (q shared : ℕ) (axes : List ℕ) (k n : ℕ) (keys mid after : List ℕ) → n ≡ 2 ^ (q / 2)
+    → mid ≡ measuredTo q shared axes (k / n * 2 ^ (q / 2)) keys
+    → after ≡ filledFrom (k / n * n) (rowMetric (shared + realIn axes (k / n)) axes) (k % n) mid → after ≡ measuredTo q shared axes k keys
+first-is q shared axes k n keys mid after e em ea =
+    ea ∙ ap (filledFrom (k / n * n) (rowMetric (shared + realIn axes (k / n)) axes) (k % n)) em ∙ rw e (row-reached q shared axes k keys)
 
 module _ (s : tie.Start) where
   abbrev count : ℕ
@@ -83,6 +83,6 @@ fill-first-spec =
     ∙ ap length (c .before .before .before .before .before .before .before .fill-rows .ensures) ∙ pass-length _ _ _ _ _)
     (λ c.
     let s = c .before .before .before .before .before .before .before .before .before .before in
-    let whole = first-is (s .args .q) (s .args .partial) (s .args .axes .now) (s .args .k) (count s) (s .args .keys .now) _ _ (count-is s)
+    let whole = first-is (s .args .q) (s .args .shared) (s .args .axes .now) (s .args .k) (count s) (s .args .keys .now) _ _ (count-is s)
     (c .before .before .before .before .before .before .before .fill-rows .ensures) (c .before .before .fill-columns .ensures) in
-    (whole, pass-parted (s .args .q) (s .args .partial) (s .args .axes .now) (s .args .keys .now) (s .args .k) (s .pre .4) (s .pre .3) _ whole)))
+    (whole, pass-parted (s .args .q) (s .args .shared) (s .args .axes .now) (s .args .keys .now) (s .args .k) (s .pre .4) (s .pre .3) _ whole)))

@@ -1,4 +1,4 @@
--- The invariant: the children of the first a real labels have their whole partial metric, and the other places are as before the pass.
+-- The invariant: the children of the first a real labels have their whole shared metric, and the other places are as before the pass.
 use mathlib.Core.Path.{_≡_, sym, ap, _∙_}
 use mathlib.Core.List.{List}
 use Prim.Native.Nat.{ℕ, _+_, _-_, _*_, _/_, _%_, _^_, _≤_, _<_}
@@ -15,11 +15,11 @@ use Rattle.metric.proofs.children.fill_rows.Statement.{statement}
 use Rattle.metric.proofs.children.fill_rows.Tie as tie
 
 abbrev Inv-loop : tie.InvT-loop
-Inv-loop q partial axes rows keys₀ n parts a₀ keys a =
-    (rows ≤ 2 ^ (q - q / 2)) × (n ≡ 2 ^ (q / 2)) × (a ≤ rows) × (keys ≡ measuredTo q partial axes (a * n) keys₀)
+Inv-loop q shared axes rows keys₀ n parts a₀ keys a =
+    (rows ≤ 2 ^ (q - q / 2)) × (n ≡ 2 ^ (q / 2)) × (a ≤ rows) × (keys ≡ measuredTo q shared axes (a * n) keys₀)
 
 abbrev μ-loop : tie.MeasureT-loop
-μ-loop q partial axes rows keys₀ n parts a₀ keys a = rows - a
+μ-loop q shared axes rows keys₀ n parts a₀ keys a = rows - a
 
 loop-holds : tie.Need-loop-holds Inv-loop μ-loop
 loop-holds c =
@@ -99,7 +99,7 @@ loop-again c =
       l .loop .inv .0,
       l .loop .inv .1,
       omega (arith, f .before .before .before .before .loop-test .taken),
-      row-more (s .q) (s .partial) (s .axes .now) (l .loop .a) _ (s .keys .now) (l .loop .keys) _ (l .loop .inv .1)
+      row-more (s .q) (s .shared) (s .axes .now) (l .loop .a) _ (s .keys .now) (l .loop .keys) _ (l .loop .inv .1)
           (l .loop .inv .3) (f .fill-columns .ensures ∙ same-row (l .before) _ _ _),
     )
 

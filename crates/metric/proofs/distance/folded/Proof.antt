@@ -9,14 +9,14 @@ use mir.Syntax.{w64}
 use mir.Val.{toZ}
 use mir.Facts.{toZ-ofZ}
 use Rattle.model.specs.Block.{mostEntry}
-use Rattle.metric.specs.Parts.{axisWidth, span, apart, nearestOf}
+use Rattle.metric.specs.Parts.{remainderBound, axisWidth, span, apart, nearestOf}
 use Rattle.metric.proofs.Folds.{fold-more, fold-none}
 use Rattle.metric.proofs.distance.folded.Statement.{statement}
 use Rattle.metric.proofs.distance.folded.Tie as tie
 
 abbrev Inv-loop : tie.InvT-loop
 Inv-loop e diagonal w distance₀ k₀ distance k =
-    (k ≤ axisWidth) × (distance < 2 ^ 30) × (nearestOf diagonal k distance ≡ nearestOf diagonal w (natAbs (toZ w64 e)))
+    (k ≤ axisWidth) × (distance < remainderBound) × (nearestOf diagonal k distance ≡ nearestOf diagonal w (natAbs (toZ w64 e)))
 
 abbrev μ-loop : tie.MeasureT-loop
 μ-loop e diagonal w distance₀ k₀ distance k = k

@@ -1,0 +1,3 @@
+pub mod Replies
+pub mod Steps
+pub mod ReadBack

@@ -1,0 +1,3 @@
+pub mod Reply
+pub mod ReadBack
+pub mod Asked
