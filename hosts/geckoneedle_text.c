@@ -12,10 +12,11 @@ struct refusal {
 /* A refusal that says the same of both. */
 #define RANGED(subject, range) {subject " not " range, range}
 
-/* By refusal number: document 01's table, and document 02's 15 and 16. */
+/* By refusal number: document 01's table, and document 02's 15 to 17. */
 static const struct refusal REFUSALS[] = {
     {"", NULL},
-    {"the first four bytes are missing or are neither 43 42 52 31 nor 43 42 52 32", "1 or 2"},
+    {"the first four bytes are missing or are none of 43 42 52 31, 43 42 52 32 and 43 42 52 33",
+     "1, 2 or 3"},
     {"the record ends before the last group of a number", NULL},
     {"a number has four groups and no last one, or ends in a group of 0 that it does not need",
      NULL},
@@ -33,6 +34,7 @@ static const struct refusal REFUSALS[] = {
     {"the bits of a symbol Q are 8, which at most three streams may have, and M is 4",
      "1, 2, 4 or 6, since at most three streams may have 8"},
     RANGED("the weak value W is", "0 to C"),
+    RANGED("a vector's owner is", "1 to 4"),
 };
 
 static int is_known(int64_t number)

@@ -4,25 +4,28 @@
 
 #include "numbers.h"
 
-/* The numbers that may stand before the first vector. */
+/* The numbers that may stand before the first vector, and before each. */
 #define STREAMS "M, the number of streams"
 #define WIDTH "Q, the bits of a symbol"
 #define VECTORS "N, the number of vectors"
 #define CLIP "C, the clip"
 #define WEAK_VALUE "W, the weak value"
 #define SHARE "D, the share"
+#define OWNER "owner"
 
-/* Those that a record has, in their order: how many, their letters, and what each is. */
+/* Those that a record has, in their order: how many, their letters, and what each is; and how many owners stand before each vector. */
 struct header {
     size_t count;
     const char *letters;
     const char *places[6];
+    size_t owners;
 };
 
 /* By opening, from 1 on. */
 static const struct header HEADERS[] = {
-    {5, "M Q N C D", {STREAMS, WIDTH, VECTORS, CLIP, SHARE}},
-    {6, "M Q N C W D", {STREAMS, WIDTH, VECTORS, CLIP, WEAK_VALUE, SHARE}},
+    {5, "M Q N C D", {STREAMS, WIDTH, VECTORS, CLIP, SHARE}, 0},
+    {6, "M Q N C W D", {STREAMS, WIDTH, VECTORS, CLIP, WEAK_VALUE, SHARE}, 0},
+    {6, "M Q N C W D", {STREAMS, WIDTH, VECTORS, CLIP, WEAK_VALUE, SHARE}, 1},
 };
 
 static const struct header *header_of(uint32_t opening)
@@ -81,10 +84,14 @@ void print_place(FILE *file, uint32_t opening, size_t index, const int32_t *numb
     }
     size_t streams = (size_t)numbers[0];
     size_t bits = (size_t)numbers[1];
-    size_t in_vector = streams * streams + 2 * streams + streams * bits;
-    size_t at = index - header->count;
-    fprintf(file, "vector %zu, ", at / in_vector + 1);
-    print_vector_place(file, at % in_vector, streams, bits);
+    size_t in_vector = header->owners + streams * streams + 2 * streams + streams * bits;
+    size_t at = (index - header->count) % in_vector;
+    fprintf(file, "vector %zu, ", (index - header->count) / in_vector + 1);
+    if (at < header->owners) {
+        fprintf(file, OWNER);
+    } else {
+        print_vector_place(file, at - header->owners, streams, bits);
+    }
 }
 
 /* Prints so many numbers, and returns where the next one stands. */
@@ -122,6 +129,10 @@ void print_text(uint32_t opening, const int32_t *numbers)
     printf("   # %s\n", header->letters);
     for (int32_t vector = 1; vector <= numbers[2]; vector++) {
         printf("# vector %" PRId32 "\n", vector);
+        if (header->owners > 0) {
+            next = print_numbers(next, header->owners);
+            printf("   # " OWNER "\n");
+        }
         next = print_vector(next, (size_t)numbers[0], (size_t)numbers[1]);
     }
 }

@@ -4,28 +4,29 @@
 # installed tree, and what the Makefile proves again and what not. Says what is wrong and ends with status 1, or ends with 0.
 set -eu
 cd "$(dirname "$0")/.."
-made="example stopped priors signed-priors full full-stopped wide weaker"
-refused="refused refused-wide refused-weak"
+made="example stopped priors signed-priors full full-stopped wide weaker gauges"
+refused="refused refused-wide refused-weak refused-owner"
 written="bench tie points distance far ties"
 broken="empty other-opening cut trailing"
 samples=$(for name in $made $refused $written $broken; do echo samples/$name.rec; done)
 short=$(for name in $made $written; do echo samples/$name.rec; done | grep -v full)
 
 # The refusals that a record can meet.
-refusals="1 2 3 4 5 6 7 8 9 10 11 12 13 15 16"
+refusals="1 2 3 4 5 6 7 8 9 10 11 12 13 15 16 17"
 
-# The longest record's bytes and numbers, by the samples: full is as large a block, without a W. The C side has them in geckoneedle.h and nowhere
-# else, and must agree.
+# The longest record's bytes and numbers, by the samples: full is as large a block, without a W and its 64 owners. The C side has them in
+# geckoneedle.h and nowhere else, and must agree.
 longest=$(($(wc -c <samples/too-long.rec) - 1))
-most=$(($(sed 's/#.*//' samples/full.numbers | wc -w) + 1))
+most=$(($(sed 's/#.*//' samples/full.numbers | wc -w) + 65))
 
 fail() {
     echo "hosts: $1"
     exit 1
 }
 
-# Where what is printed is kept; another folder for the runs under valgrind, which go on beside the others.
+# Where what is printed is kept; other folders for the runs under valgrind, which go on beside the others.
 out=build
+checker="valgrind --quiet --error-exitcode=9 --leak-check=full"
 
 # expect STATUS WHAT COMMAND...: runs the command, its output to $out/printed and $out/complaints, and asks for this exit status.
 expect() {
@@ -149,7 +150,6 @@ makes() {
 checked_memory() {
     out=build/memory
     mkdir -p $out
-    checker="valgrind --quiet --error-exitcode=9 --leak-check=full"
     expect 1 "valgrind" $checker build/detect $samples
     complains "" "valgrind"
     expect 0 "valgrind, two threads" $checker build/threads 1 $samples
@@ -158,9 +158,14 @@ checked_memory() {
     complains "" "helgrind, two threads"
     write_samples $checker
     read_samples $checker
-    refuse_lists $checker
     decode_replies "$short" $checker
-    echo "hosts: no error under valgrind"
+}
+
+# and of the refused lists, which are as many starts of valgrind as all else.
+checked_lists() {
+    out=build/memory-lists
+    mkdir -p $out
+    refuse_lists $checker
 }
 
 hosts/build.sh || fail "the host programs do not build"
@@ -169,6 +174,8 @@ memory=
 if command -v valgrind >/dev/null; then
     (checked_memory) >build/memory-out 2>&1 &
     memory=$!
+    (checked_lists) >build/lists-out 2>&1 &
+    lists=$!
 else
     echo "hosts: SKIPPED: valgrind is not installed, so nothing was run under it"
 fi
@@ -222,6 +229,9 @@ complains "samples/refused-wide.numbers: line 1, column 3: number 2 is 8: Q, the
 expect 1 "the numbers of refused-weak" build/record samples/refused-weak.numbers
 complains "samples/refused-weak.numbers: line 2, column 10: number 5 is 11: W, the weak value: it must be 0 to C, and C is 10 (refused by 16)" \
     "the numbers of refused-weak"
+expect 1 "the numbers of refused-owner" build/record samples/refused-owner.numbers
+complains "samples/refused-owner.numbers: line 11, column 1: number 18 is 5: vector 2, owner: it must be 1 to 4 (refused by 17)" \
+    "the numbers of refused-owner"
 
 # The example in other words: signs, zeros in front, tabs, carriage returns, a comment right behind a number, no end of the last line.
 printf '+2\t01 %01000d 10 3# sizes\r\n1 1 -0 1\r\n1 0 -1 0 0 0 \r\n\r\n\t# again\n1 1 0 1 1 0 -0001 +0 0 0' 2 >build/list.numbers
@@ -236,11 +246,11 @@ same samples/example.rec build/printed "the example with its opening"
 expect 0 "an opening in other words" build/record build/list.numbers
 same samples/weaker.rec build/printed "an opening in other words"
 
-# A full block with a W: as many numbers as any record has. One more, and what is behind it does not matter.
-{ echo "opening 2" && sed '1s/[0-9]* *# M Q N C D/0 &/; 1s/N C D/N C W D/' samples/full.numbers; } >build/full.numbers
-expect 0 "a full block with a W" build/record -o build/full.rec build/full.numbers
-expect 0 "the numbers of a full block with a W" build/record -n build/full.rec
-same build/full.numbers build/printed "the numbers of a full block with a W"
+# A full block with a W and owners: as many numbers as any record has. One more, and what is behind it does not matter.
+{ echo "opening 3" && sed '1s/[0-9]* *# M Q N C D/0 &/; 1s/N C D/N C W D/; s/^# vector.*/&\n1   # owner/' samples/full.numbers; } >build/full.numbers
+expect 0 "a full block with owners" build/record -o build/full.rec build/full.numbers
+expect 0 "the numbers of a full block with owners" build/record -n build/full.rec
+same build/full.numbers build/printed "the numbers of a full block with owners"
 lines=$(($(wc -l <build/full.numbers)))
 { cat build/full.numbers && echo "4 abc"; } >build/list.numbers
 expect 1 "a number more than any record has" build/record build/list.numbers
@@ -412,5 +422,6 @@ cat build/printed
 
 if [ -n "$memory" ]; then
     wait "$memory" || fail "under valgrind: $(cat build/memory-out)"
-    cat build/memory-out
+    wait "$lists" || fail "under valgrind: $(cat build/lists-out)"
+    echo "hosts: no error under valgrind"
 fi

@@ -1,4 +1,4 @@
-//! A second source for what is checked by running: written from the documents alone, 01 and the first six points of 02, in plain
+//! A second source for what is checked by running: written from the documents alone, 01 and the first seven points of 02, in plain
 //! Rust, and sharing no line with the proved library.
 //!
 //! - `format`: records and replies as bytes and as numbers; one record reader, and a writer beside it that ranges a list's numbers

@@ -82,7 +82,7 @@ fn plural(count: usize) -> &'static str {
 /// Document 01's table in words, and document 02's refusals.
 pub fn reason(refusal: Refusal) -> &'static str {
     match refusal {
-        1 => "the first four bytes are missing or are neither 43 42 52 31 nor 43 42 52 32",
+        1 => "the first four bytes are missing or are none of 43 42 52 31, 43 42 52 32 and 43 42 52 33",
         2 => "the record ends before the last group of a number",
         3 => "a number has four groups and no last one, or ends in a group of 0 that it does not need",
         4 => "the number of streams M is not 1 to 4",
@@ -98,6 +98,7 @@ pub fn reason(refusal: Refusal) -> &'static str {
         14 => "the reply buffer is shorter than 7 + N x (9 + 4 x M x Q) bytes",
         15 => "the bits of a symbol Q are 8, which at most three streams may have, and M is 4",
         16 => "the weak value W is not 0 to C",
+        17 => "a vector's owner is not 1 to 4",
         _ => panic!("the documents have no refusal {refusal}"),
     }
 }
@@ -105,7 +106,7 @@ pub fn reason(refusal: Refusal) -> &'static str {
 #[cfg(test)]
 mod tests {
     use super::*;
-    use crate::inputs::readings::{lines, starred, LISTING, LISTING_RECORD, STARRED_DISTANCES, WEAK_RECORD};
+    use crate::inputs::readings::{lines, owned, starred, LISTING, LISTING_RECORD, STARRED_DISTANCES, WEAK_RECORD};
 
     #[test]
     fn the_listing_of_document_01() {
@@ -121,6 +122,21 @@ mod tests {
             host_lines("a.rec", &WEAK_RECORD).lines().nth(1),
             Some("  vector 1: stopped after 4 nodes, label 2, soft values -8 7")
         );
+    }
+
+    /// The vector of two streams with owners 1, 2, 2 and 1, C = W = 10, D = 4: no owner is printed, the vectors stand in record order, and
+    /// the total is over all owners.
+    #[test]
+    fn the_listing_of_a_record_with_owners() {
+        let printed = "\
+streams 2 bits 1 vectors 4 clip 10 share 4
+1 complete 5 2 0 -4 4 1
+2 complete 5 2 0 -4 4 1
+3 stopped 3 2 0 -8 10 1
+4 stopped 3 2 0 -8 10 1
+total 16
+";
+        assert_eq!(listing(&owned([1, 2, 2, 1], 10, 4).record()), printed);
     }
 
     #[test]

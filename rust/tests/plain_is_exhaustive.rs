@@ -1,5 +1,5 @@
-//! The plain detector against all labels: demand 2 for complete vectors, whatever W is, demand 3's counts, and the two parts of every
-//! walked label's metric, its distance and its prior cost.
+//! The plain detector against all labels: demand 2 for complete vectors, whatever W and the owners are, demand 3's counts owner by owner,
+//! and the two parts of every walked label's metric, its distance and its prior cost.
 
 use reference::detectors::exhaustive;
 use reference::detectors::plain::{self, Found, Leaf};
@@ -7,8 +7,8 @@ use reference::format::block::{Block, Vector};
 use reference::format::encoding::Opening;
 use reference::inputs::chance::Chance;
 use reference::inputs::channel::{any_block, opened, Plan, Sizes};
-use reference::inputs::ties;
 use reference::inputs::trials::{self, SMALL_TREES};
+use reference::inputs::{owners, ties};
 
 /// M and Q with twelve and with sixteen label bits.
 const TWELVE_BITS: [(usize, usize); 2] = [(3, 4), (2, 6)];
@@ -21,20 +21,24 @@ fn check_parts(block: &Block, vector: &Vector, leaf: &Leaf) {
     assert_eq!(plain::distance(block, vector, leaf.label), distance, "{block:?}, {leaf:?}");
 }
 
-/// Compares the complete vectors, and gives how many there are; checks every count and mark.
+/// Compares the complete vectors, and gives how many there are; checks every count and mark. What an owner has beyond M for each of its
+/// vectors falls by what each of them takes beyond M.
 fn complete(block: &Block) -> usize {
-    let mut allowance = block.vectors.len() as i64 * (block.share - block.streams as i64) + block.streams as i64;
+    let streams = block.streams as i64;
+    let mut beyond = [0; 5];
+    block.owners.iter().for_each(|&owner| beyond[owner] += block.share - streams);
     let mut complete = 0;
-    for (vector, Found { answer, leaves }) in block.vectors.iter().zip(plain::search(block)) {
+    for ((vector, &owner), Found { answer, leaves }) in block.vectors.iter().zip(&block.owners).zip(plain::search(block)) {
         leaves.iter().for_each(|leaf| check_parts(block, vector, leaf));
-        assert!(block.streams as i64 <= answer.nodes && answer.nodes <= allowance);
+        let allowance = beyond[owner] + streams;
+        assert!(streams <= answer.nodes && answer.nodes <= allowance);
         if answer.stopped {
             assert_eq!(answer.nodes, allowance);
         } else {
             assert_eq!((answer.label, answer.values), exhaustive::answer(block, vector), "{block:?}");
             complete += 1;
         }
-        allowance += block.streams as i64 - answer.nodes;
+        beyond[owner] -= answer.nodes - streams;
     }
     complete
 }
@@ -90,6 +94,13 @@ fn ties_that_priors_decide() {
     let blocks = ties::records().map(|trial| Block::read(&trial.record).expect("accepted"));
     let small = blocks.filter(|block| block.label_bits() <= 12);
     assert!(small.map(|block| complete(&block)).sum::<usize>() > 2_000);
+}
+
+#[test]
+fn several_owners() {
+    let blocks = owners::records().chain(owners::channels()).map(|trial| Block::read(&trial.record).expect("accepted"));
+    let small = blocks.filter(|block| block.label_bits() <= 8);
+    assert!(small.map(|block| complete(&block)).sum::<usize>() > 5_000);
 }
 
 #[test]

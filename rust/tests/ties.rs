@@ -55,7 +55,7 @@ fn values_of_complete_vectors_stay() {
         let is_other = |&index: &usize| is_other_label(&block, &block.vectors[index], &ones[index], &numbers[index]);
         others += (0..ones.len()).filter(is_other).count();
     }
-    assert_eq!(others, 665);
+    assert_eq!(others, 977);
 }
 
 /// What the smallest number alone makes of some readings, worked out by hand; the starred ones are the same in both orders.

@@ -89,5 +89,5 @@ fn lists_and_records_are_refused_alike() {
             Err(_) => refused += 1,
         }
     }
-    assert_eq!(refused, 44_196);
+    assert_eq!(refused, 69_045);
 }

@@ -2,8 +2,8 @@
 //! with any slip some record tells.
 //!
 //! It keeps 000's list (the best label, its metric, an extrinsic metric for each bit) in place of the leaves. The slips are what
-//! document 01 says that the pruning papers invite, the frauds of its Agreement, what the 256 points, the weak value and the ties of
-//! document 02 invite, and the likely ones beside them. Its reader goes by the places that `encoding` has.
+//! document 01 says that the pruning papers invite, the frauds of its Agreement, what the 256 points, the weak value, the ties and the
+//! owners of document 02 invite, and the likely ones beside them. Its reader goes by the places that `encoding` has.
 
 #[macro_use]
 mod slips;
@@ -14,11 +14,10 @@ use reference::format::block::{Block, Complex, Vector};
 use reference::format::encoding::{plain as plain_form, unfold, Contents, Numbers, Opening, Place};
 use reference::format::record::{check_width, read, read_plain, Refusal};
 use reference::format::reply::{self, Answer};
-use reference::inputs::eq_31;
 use reference::inputs::numbers::{range, row};
-use reference::inputs::readings::tied;
-use reference::inputs::ties;
+use reference::inputs::readings::{beside_another, shared, tied};
 use reference::inputs::trials::{self, Trial};
+use reference::inputs::{eq_31, owners, ties};
 use slips::is_seen_often;
 
 /// Above every metric and limit.
@@ -128,6 +127,39 @@ slips! {
         /// The reply has W behind N.
         WeakInReply,
     }
+    /// What owners invite in the allowance, and in the reply.
+    owner_slips {
+        /// M nodes are kept back for each later vector of the record, whoever owns it.
+        ReserveOverAll,
+        /// What all owners have walked is taken off.
+        SpentOfAll,
+        /// N x D nodes for each owner.
+        TotalOfAll,
+        /// D nodes for each owner, however many vectors it has.
+        OneShareEach,
+        /// All owners have one share of N x D: each vector is taken for owner 1's.
+        AllForOne,
+        /// n is counted up to this vector only.
+        CountSoFar,
+        /// n is one too many, or one too few.
+        CountMore(i64) in [-1, 1].map(CountMore),
+        /// These two owners are taken for one.
+        TakenTogether(usize, usize) in (1..=4).flat_map(|one| (1..one).map(move |other| TakenTogether(one, other))),
+        /// The vector before this one, or the one behind it, says who the owner is.
+        OwnerOf(isize) in [-1, 1].map(OwnerOf),
+        /// The owners take turns, whatever the numbers say.
+        OwnersInTurn,
+        /// An owner's first vector is searched, its others are stopped at M nodes.
+        OwnOthersAtM,
+        /// What an owner leaves behind its last vector goes to the next vector's owner.
+        LeftoversToNext,
+        /// Only the first so many owners have shares of their own, the others' vectors get M nodes.
+        OwnersUpTo(usize) in (1..=3).map(OwnersUpTo),
+        /// The answers stand owner by owner.
+        AnswersByOwner,
+        /// The owner stands before each answer in the reply.
+        OwnerInReply,
+    }
     /// Slips of the reader alone, as the 256 points invite them.
     width_slips {
         /// 15 is checked before 5: four streams with Q = 9 are refused by 15.
@@ -162,16 +194,53 @@ slips! {
         WeakFolded,
         /// D is read in W's place, and W in D's.
         ShareBeforeWeak,
-        /// A record that opens 43 42 52 32 has no W.
-        TwoWithoutWeak,
-        /// It is refused by 1, as before.
-        TwoRefused,
-        /// An older record has W too.
-        OneWithWeak,
-        /// The last byte of the opening is not looked at, where it is neither 31 nor 32.
+        /// A record that opens as the first has the numbers of the second.
+        TakenFor(Opening, Opening) in other_openings(),
+        /// It is refused by 1.
+        OpeningRefused(Opening) in Opening::ALL.map(OpeningRefused),
+        /// The last byte of the opening is not looked at, where it is none of 31, 32 and 33.
         UnknownTaken(Opening) in Opening::ALL.map(UnknownTaken),
     }
+    /// Slips of the reader alone, as owners invite them.
+    owner_reading_slips {
+        /// The lower and the upper end of an owner's range are moved by so much: 0 and 5 are accepted, or 1 and 4 refused.
+        OwnerRange(i64, i64) in [(-1, 0), (0, 1), (1, 0), (0, -1)].map(|(least, greatest)| OwnerRange(least, greatest)),
+        /// No owner is a fault.
+        OwnerAccepted,
+        /// An owner out of range is refused by this.
+        OwnerBy(Refusal) in [4, 6, 9, 13, 16].map(OwnerBy),
+        /// Only so many bits of an owner are looked at.
+        OwnerBits(u32) in [2, 3, 7, 8, 16].map(OwnerBits),
+        OwnerFolded,
+        /// 17 is checked when the first diagonal entry has been read and ranged.
+        OwnerAfterDiagonal,
+        /// 17 is checked behind the vector's priors.
+        OwnerAfterVector,
+        /// 17 is checked when the record has been read.
+        OwnerLast,
+        /// An owner is read at this place: behind the diagonal entry, behind the vector, or all of them before the first vector.
+        OwnerAt(Spot) in [BehindDiagonal, BehindVector, BeforeAll, BeforeFirst].map(OwnerAt),
+    }
 }
+
+/// Pairs of openings that are not the same.
+fn other_openings() -> Vec<Slip> {
+    let pairs = Opening::ALL.into_iter().flat_map(|one| Opening::ALL.map(|other| (one, other)));
+    pairs.filter(|(one, other)| one != other).map(|(one, other)| TakenFor(one, other)).collect()
+}
+
+/// Where an owner could be looked for, besides before its vector.
+#[derive(Clone, Copy, Debug, PartialEq, Eq)]
+enum Spot {
+    BehindDiagonal,
+    BehindVector,
+    /// One after another, before the first vector.
+    BeforeAll,
+    /// One for all vectors, before the first of them.
+    BeforeFirst,
+}
+
+use Spot::*;
 
 /// What metrics can be equal of.
 #[derive(Clone, Copy, Debug, PartialEq, Eq)]
@@ -187,19 +256,13 @@ fn read_with(slip: Slip, record: &[u8]) -> Result<Contents, Refusal> {
     let opening = opening_with(slip, record).ok_or(1_u32)?;
     let mut rest = &record[Opening::LENGTH..];
     let mut numbers = Numbers::new();
-    let mut take = |place: Place, numbers: &mut Numbers| -> Result<(), Refusal> {
-        let number = read_plain(&mut rest)?;
-        let is_folded = place.is_folded() != (slip == WeakFolded && place == Place::Weak);
-        let number = if is_folded { unfold(number) } else { number };
-        check_with(slip, opening, place, numbers, number)?;
-        numbers.push(number);
-        Ok(())
-    };
     for &place in &opening.sizes()[..3] {
-        take(place, &mut numbers)?;
+        take_with(slip, opening, place, &mut rest, &mut numbers)?;
     }
-    for &place in &places_with(slip, opening, &numbers)[3..] {
-        take(place, &mut numbers)?;
+    let places = places_with(slip, opening, &numbers);
+    for (at, &place) in places.iter().enumerate().skip(3) {
+        take_with(slip, opening, place, &mut rest, &mut numbers)?;
+        check_owner_later(slip, &places[..=at], places.get(at + 1), &numbers)?;
     }
     if !rest.is_empty() {
         return Err(13);
@@ -207,18 +270,70 @@ fn read_with(slip: Slip, record: &[u8]) -> Result<Contents, Refusal> {
     match slip {
         FourStreamsLast => check_width(numbers[0], numbers[1])?,
         WeakLast if opening.has_weak() => check_weak(numbers[3], numbers[4])?,
+        OwnerLast => places.iter().zip(&numbers).try_for_each(|(&place, &number)| check_if_owner(place, number))?,
         ShareBeforeWeak if opening.has_weak() => numbers.swap(4, 5),
+        OwnerAt(_) if opening.has_owners() => numbers = put_right(opening, &places, numbers),
         _ => (),
     }
     Ok(Contents { opening, numbers })
 }
 
+/// Reads a number, and ranges it unless that is done later.
+fn take_with(slip: Slip, opening: Opening, place: Place, rest: &mut &[u8], numbers: &mut Numbers) -> Result<(), Refusal> {
+    let number = read_plain(rest)?;
+    let is_other = match slip {
+        WeakFolded => place == Place::Weak,
+        OwnerFolded => place == Place::Owner,
+        _ => false,
+    };
+    let number = if place.is_folded() != is_other { unfold(number) } else { number };
+    let number = match slip {
+        OwnerBits(bits) if place == Place::Owner => number % (1 << bits),
+        _ => number,
+    };
+    check_with(slip, opening, place, numbers, number)?;
+    numbers.push(number);
+    Ok(())
+}
+
+/// The check of an owner that a slip puts off: to where the first diagonal entry has been read, or the whole vector.
+fn check_owner_later(slip: Slip, places: &[Place], next: Option<&Place>, numbers: &[i64]) -> Result<(), Refusal> {
+    let owner = places.iter().rposition(|&place| place == Place::Owner);
+    let is_due = match slip {
+        OwnerAfterDiagonal => owner.is_some_and(|owner| owner + 2 == places.len()),
+        OwnerAfterVector => next.is_none_or(|&next| next == Place::Owner),
+        _ => false,
+    };
+    match owner {
+        Some(owner) if is_due => check_if_owner(places[owner], numbers[owner]),
+        _ => Ok(()),
+    }
+}
+
+fn check_if_owner(place: Place, number: i64) -> Result<(), Refusal> {
+    if place == Place::Owner {
+        within(place, &[], number)
+    } else {
+        Ok(())
+    }
+}
+
+/// The numbers with an owner before each vector, from where they were read; one for all is every vector's.
+fn put_right(opening: Opening, places: &[Place], numbers: Numbers) -> Numbers {
+    let all = || places.iter().copied().zip(numbers.iter().copied());
+    let owners: Vec<i64> = all().filter(|&(place, _)| place == Place::Owner).map(|(_, number)| number).collect();
+    let mut owners = owners.iter().cycle().copied();
+    let mut others = all().filter(|&(place, _)| place != Place::Owner).map(|(_, number)| number);
+    let right = opening.places(numbers[0], numbers[1], numbers[2]);
+    let number = |place: Place| if place == Place::Owner { owners.next() } else { others.next() };
+    right.into_iter().filter_map(number).collect()
+}
+
 /// The opening as it is taken: it has the layout that the slip gives it.
 fn opening_with(slip: Slip, record: &[u8]) -> Option<Opening> {
     match (slip, Opening::of(record)) {
-        (TwoWithoutWeak, Some(Opening::Two)) => Some(Opening::One),
-        (TwoRefused, Some(Opening::Two)) => None,
-        (OneWithWeak, Some(Opening::One)) => Some(Opening::Two),
+        (TakenFor(this, other), Some(opening)) if opening == this => Some(other),
+        (OpeningRefused(this), Some(opening)) if opening == this => None,
         (UnknownTaken(opening), None) if record.len() >= 4 && record.starts_with(&[0x43, 0x42, 0x52]) => Some(opening),
         (_, opening) => opening,
     }
@@ -227,10 +342,27 @@ fn opening_with(slip: Slip, record: &[u8]) -> Option<Opening> {
 /// The places that M, Q and N call for.
 fn places_with(slip: Slip, opening: Opening, numbers: &[i64]) -> Vec<Place> {
     let mut places = opening.places(numbers[0], numbers[1], numbers[2]);
-    if slip == ShareBeforeWeak && opening.has_weak() {
-        places.swap(4, 5);
+    match slip {
+        ShareBeforeWeak if opening.has_weak() => places.swap(4, 5),
+        OwnerAt(spot) if opening.has_owners() => return owners_at(spot, opening, &places),
+        _ => (),
     }
     places
+}
+
+/// The same places, but for the owners'.
+fn owners_at(spot: Spot, opening: Opening, places: &[Place]) -> Vec<Place> {
+    let (sizes, vectors) = places.split_at(opening.sizes().len());
+    let count = vectors.iter().filter(|&&place| place == Place::Owner).count();
+    let mut vectors: Vec<Vec<Place>> = vectors.chunks(vectors.len() / count).map(|vector| vector[1..].to_vec()).collect();
+    let mut before = vec![];
+    match spot {
+        BehindDiagonal => vectors.iter_mut().for_each(|vector| vector.insert(1, Place::Owner)),
+        BehindVector => vectors.iter_mut().for_each(|vector| vector.push(Place::Owner)),
+        BeforeAll => before.resize(count, Place::Owner),
+        BeforeFirst => before.push(Place::Owner),
+    }
+    [sizes.to_vec(), before, vectors.concat()].concat()
 }
 
 /// A number as soon as it is read.
@@ -247,7 +379,21 @@ fn check_with(slip: Slip, opening: Opening, place: Place, before: &[i64], number
         (WeakTo(clip), Place::Weak) => check_weak(clip, number),
         (WeakBelowClip, Place::Weak) => check_weak(before[3] - 1, number),
         (WeakAboveZero, Place::Weak) if number == 0 => Err(16),
+        (_, Place::Owner) => check_owner_with(slip, number),
         _ => within(place, before, number),
+    }
+}
+
+fn check_owner_with(slip: Slip, owner: i64) -> Result<(), Refusal> {
+    let (least, greatest) = match slip {
+        OwnerRange(lower, upper) => (1 + lower, 4 + upper),
+        OwnerAccepted | OwnerAfterDiagonal | OwnerAfterVector | OwnerLast => (i64::MIN, i64::MAX),
+        _ => (1, 4),
+    };
+    match slip {
+        _ if (least..=greatest).contains(&owner) => Ok(()),
+        OwnerBy(refusal) => Err(refusal),
+        _ => Err(17),
     }
 }
 
@@ -296,8 +442,10 @@ fn detect(slip: Slip, record: &[u8], reply: &mut [u8]) -> i64 {
     if reply.len() < block.room() {
         return -14;
     }
-    let mut bytes = reply::encode(&block, &answers(slip, &block));
+    let answers = answers(slip, &block);
+    let mut bytes = reply::encode(&block, &answers);
     match slip {
+        OwnerInReply if block.opening.has_owners() => bytes = with_owners(&block, &answers),
         OpeningInReply => bytes[3] = record[3],
         WeakInReply if block.opening.has_weak() => drop(bytes.splice(7..7, plain_form(block.weak))),
         _ => (),
@@ -308,26 +456,86 @@ fn detect(slip: Slip, record: &[u8], reply: &mut [u8]) -> i64 {
     bytes.len() as i64
 }
 
+/// The reply with each vector's owner before its answer.
+fn with_owners(block: &Block, answers: &[Answer]) -> Vec<u8> {
+    let one = |answer: &Answer| reply::encode(block, std::slice::from_ref(answer))[7..].to_vec();
+    let each = block.owners.iter().zip(answers).flat_map(|(&owner, answer)| [vec![owner as u8], one(answer)].concat());
+    reply::encode(block, &[]).into_iter().chain(each).collect()
+}
+
 fn answers(slip: Slip, block: &Block) -> Vec<Answer> {
-    let (count, streams) = (block.vectors.len() as i64, block.streams as i64);
-    let mut spent = 0;
+    let owners = owners_with(slip, block);
+    let mut spent = Vec::new();
     let mut all = Vec::new();
-    for (index, vector) in block.vectors.iter().enumerate() {
-        let later = count - 1 - index as i64;
-        let allowance = match slip {
-            OthersAtM if index > 0 => streams,
-            LeftoversLost => block.share,
-            NothingReserved => count * block.share - spent,
-            StoppedEarly => (count * block.share - spent - later * streams - 1).max(streams),
-            _ => count * block.share - spent - later * streams,
-        };
+    for vector in &block.vectors {
+        let allowance = allowance(slip, block, &owners, &spent);
         let has_stopped = all.iter().any(|answer: &Answer| answer.stopped);
         let answer = answer(slip, block, vector, allowance, has_stopped);
-        spent += answer.nodes;
+        spent.push(answer.nodes);
         let nodes = if slip == CountIsShare { block.share } else { answer.nodes };
         all.push(Answer { nodes, ..answer });
     }
+    if slip == AnswersByOwner {
+        let places = (1..=4).flat_map(|owner| block.places_of(owner));
+        return places.map(|at| all[at].clone()).collect();
+    }
     all
+}
+
+/// The vectors' owners as the slip takes them; 1 to 4, but for those that have no share.
+fn owners_with(slip: Slip, block: &Block) -> Vec<usize> {
+    let last = block.owners.len() as isize - 1;
+    let owner = |at: usize| match (slip, block.owners[at]) {
+        (AllForOne, _) => 1,
+        (TakenTogether(one, other), owner) if owner == one => other,
+        (OwnerOf(step), _) => block.owners[(at as isize + step).clamp(0, last) as usize],
+        (OwnersInTurn, _) if block.opening.has_owners() => at % 4 + 1,
+        (_, owner) => owner,
+    };
+    (0..block.owners.len()).map(owner).collect()
+}
+
+/// What the vector behind those that have spent nodes may walk. Where a slip leaves less than M, it is M, so that the walk has a leaf.
+fn allowance(slip: Slip, block: &Block, owners: &[usize], spent: &[i64]) -> i64 {
+    let (at, streams, share) = (spent.len(), block.streams as i64, block.share);
+    let is_own = |other: &usize| owners[*other] == owners[at];
+    let count = (0..owners.len()).filter(is_own).count() as i64;
+    let before = (0..at).filter(is_own).count() as i64;
+    let own_spent: i64 = (0..at).filter(is_own).map(|other| spent[other]).sum();
+    let later = count - before - 1;
+    let own = count * share - own_spent - later * streams;
+    let all = owners.len() as i64;
+    let allowance = match slip {
+        OthersAtM if at > 0 => streams,
+        OwnOthersAtM if before > 0 => streams,
+        OwnersUpTo(most) if owners[at] > most => streams,
+        LeftoversLost => share,
+        NothingReserved => count * share - own_spent,
+        StoppedEarly => own - 1,
+        ReserveOverAll => count * share - own_spent - (all - at as i64 - 1) * streams,
+        SpentOfAll => count * share - spent.iter().sum::<i64>() - later * streams,
+        TotalOfAll => all * share - own_spent - later * streams,
+        OneShareEach => share - own_spent - later * streams,
+        CountSoFar => (before + 1) * share - own_spent,
+        CountMore(more) => own + more * (share - streams),
+        LeftoversToNext => own + left_behind(block, owners, spent),
+        _ => own,
+    };
+    allowance.max(streams)
+}
+
+/// What the owners whose last vector is among those searched have left.
+fn left_behind(block: &Block, owners: &[usize], spent: &[i64]) -> i64 {
+    let left = |owner: usize| {
+        let own: Vec<usize> = (0..owners.len()).filter(|&at| owners[at] == owner).collect();
+        let is_done = own.last().is_some_and(|&last| last < spent.len());
+        if is_done {
+            own.len() as i64 * block.share - own.iter().map(|&at| spent[at]).sum::<i64>()
+        } else {
+            0
+        }
+    };
+    (1..=4).map(left).sum()
 }
 
 fn answer(slip: Slip, block: &Block, vector: &Vector, allowance: i64, has_stopped: bool) -> Answer {
@@ -589,10 +797,11 @@ fn with_no_slip_every_record_agrees() {
 
 #[test]
 fn every_slip_is_seen() {
-    assert_eq!((searching_slips().len(), tie_slips().len(), cost_width_slips().len()), (22, 18, 3));
-    assert_eq!((weak_slips().len(), width_slips().len(), opening_slips().len()), (11, 5, 17));
-    let searching = [searching_slips(), tie_slips(), cost_width_slips(), weak_slips()];
-    for slip in [searching.concat(), width_slips(), opening_slips()].concat() {
+    assert_eq!((searching_slips().len(), tie_slips().len(), cost_width_slips().len()), (22, 19, 3));
+    assert_eq!((weak_slips().len(), owner_slips().len()), (11, 24));
+    assert_eq!((width_slips().len(), opening_slips().len(), owner_reading_slips().len()), (5, 24, 23));
+    let searching = [searching_slips(), tie_slips(), cost_width_slips(), weak_slips(), owner_slips()];
+    for slip in [searching.concat(), width_slips(), opening_slips(), owner_reading_slips()].concat() {
         let seen = trials::all().filter(|trial| trial.suits_plain).any(|trial| !agree(slip, &trial));
         assert!(seen, "no record tells {slip:?}");
     }
@@ -612,6 +821,10 @@ fn every_slip_is_seen_often() {
         assert!(is_seen_often(trials::weak_values(), |trial| !agree(slip, trial)), "{slip:?}");
         assert!(is_seen_often(trials::weak_channels(), |trial| !agree(slip, trial)), "{slip:?}");
     }
+    for slip in owner_slips() {
+        assert!(is_seen_often(owners::records(), |trial| !agree(slip, trial)), "{slip:?}");
+        assert!(is_seen_often(owners::channels(), |trial| !agree(slip, trial)), "{slip:?}");
+    }
 }
 
 /// The readings of ties alone see what prior costs invite.
@@ -619,6 +832,16 @@ fn every_slip_is_seen_often() {
 fn every_slip_of_ties_is_seen_by_a_reading() {
     for slip in tie_slips() {
         let seen = tied().into_iter().any(|reading| answers(slip, &Block::of(&reading.contents)) != reading.answers);
+        assert!(seen, "no reading tells {slip:?}");
+    }
+}
+
+/// The readings with owners alone see what owners invite in the allowance.
+#[test]
+fn every_slip_of_owners_is_seen_by_a_reading() {
+    for slip in owner_slips().into_iter().filter(|&slip| slip != OwnerInReply) {
+        let mut readings = shared().into_iter().chain(beside_another());
+        let seen = readings.any(|reading| answers(slip, &Block::of(&reading.contents)) != reading.answers);
         assert!(seen, "no reading tells {slip:?}");
     }
 }
@@ -634,6 +857,10 @@ fn every_slip_of_the_reader_is_seen_often() {
     for slip in opening_slips() {
         assert!(is_seen_often(trials::reader_cases(), |trial| tells(slip, trial)), "{slip:?}");
         assert!(is_seen_often(trials::headers(), |trial| tells(slip, trial)), "{slip:?}");
+    }
+    for slip in owner_reading_slips() {
+        assert!(is_seen_often(trials::reader_cases(), |trial| tells(slip, trial)), "{slip:?}");
+        assert!(is_seen_often(trials::owner_numbers(), |trial| tells(slip, trial)), "{slip:?}");
     }
 }
 

@@ -1,5 +1,5 @@
-//! A test of the tests: a second listing, which can be given one slip at a time, such as document 02's Point 5 invites. With no slip it
-//! is what is stored of every sample; with any slip some stored sample tells. The gate holds the listing program to the same samples.
+//! A test of the tests: a second listing, which can be given one slip at a time, such as document 02's Points 5 and 7 invite. With no slip
+//! it is what is stored of every sample; with any slip some stored sample tells. The gate holds the listing program to the same samples.
 
 #[macro_use]
 mod slips;
@@ -9,7 +9,8 @@ use reference::detectors::plain::{self, Found, Leaf};
 use reference::format::block::{is_against, Block, Complex, Vector};
 use reference::format::record::Refusal;
 use reference::format::reply::decode;
-use reference::inputs::trials;
+use reference::inputs::owners;
+use reference::inputs::trials::{self, Trial};
 use reference::listing::listing;
 use slips::is_seen_often;
 use std::fs;
@@ -85,6 +86,27 @@ slips! {
         SumBehindTotal,
         /// The last line has it in place of the nodes.
         SumForTotal,
+    }
+    /// What several owners invite: names, other orders, other sums, and other shares.
+    owner_slips {
+        /// A line has the owner at this place.
+        OwnerAt(usize) in [0, 1, 2, 5].map(OwnerAt),
+        /// A line ends with the owner.
+        OwnerBehind,
+        /// The first line ends with the number of owners.
+        OwnersInFirstLine,
+        /// The lines stand owner by owner.
+        LinesByOwner,
+        /// A line's number counts its owner's vectors.
+        NumberedByOwner,
+        /// The total is this owner's.
+        TotalOf(usize) in (1..=4).map(TotalOf),
+        /// The last line has a total for each owner.
+        TotalOfEach,
+        /// There is a total's line for each owner.
+        LineOfEach,
+        /// The owners are not told apart.
+        OneOwner,
     }
 }
 
@@ -235,18 +257,42 @@ fn narrow(slip: Slip, number: i64) -> i64 {
 /// The listing.
 fn listing_with(slip: Slip, searched: &Searched) -> String {
     let Searched { block, found, .. } = searched;
-    let Block { streams, bits, clip, share, .. } = block;
+    if slip == OneOwner {
+        let together = block.clone().with_weak(block.weak).record();
+        return listing(&together);
+    }
+    let Block { streams, bits, clip, share, owners, .. } = block;
     let count = found.len();
-    let mut text = format!("streams {streams} bits {bits} vectors {count} clip {clip} share {share}\n");
-    for index in 0..count {
+    let mut text = format!("streams {streams} bits {bits} vectors {count} clip {clip} share {share}");
+    if slip == OwnersInFirstLine {
+        text += &format!(" owners {}", (1..=4).filter(|owner| owners.contains(owner)).count());
+    }
+    text += "\n";
+    let mut order: Vec<usize> = (0..count).collect();
+    if slip == LinesByOwner {
+        order.sort_by_key(|&index| owners[index]);
+    }
+    for index in order {
         text += &(line(slip, searched, index) + "\n");
     }
-    let nodes: i64 = found.iter().map(|found| found.answer.nodes).sum();
+    text + &total_with(slip, searched)
+}
+
+/// The last line.
+fn total_with(slip: Slip, searched: &Searched) -> String {
+    let count = searched.found.len();
+    let nodes: i64 = searched.found.iter().map(|found| found.answer.nodes).sum();
     let distances: i64 = (0..count).map(|index| number(slip, searched, index)).sum();
+    let own = |owner: usize| -> i64 {
+        searched.block.places_of(owner).into_iter().map(|index| searched.found[index].answer.nodes).sum()
+    };
     match slip {
-        SumBehindTotal => text + &format!("total {nodes} {distances}\n"),
-        SumForTotal => text + &format!("total {distances}\n"),
-        _ => text + &format!("total {nodes}\n"),
+        SumBehindTotal => format!("total {nodes} {distances}\n"),
+        SumForTotal => format!("total {distances}\n"),
+        TotalOf(owner) => format!("total {}\n", own(owner)),
+        TotalOfEach => format!("total {} {} {} {}\n", own(1), own(2), own(3), own(4)),
+        LineOfEach => (1..=4).map(|owner| format!("total {}\n", own(owner))).collect(),
+        _ => format!("total {nodes}\n"),
     }
 }
 
@@ -256,10 +302,20 @@ fn line(slip: Slip, searched: &Searched, index: usize) -> String {
     let mark = if answer.stopped { "stopped" } else { "complete" };
     let is_one = |bit: usize| answer.label & block.mask(bit) != 0;
     let against = (0..block.label_bits()).filter(|&bit| is_against(vector.priors[bit], is_one(bit))).count();
-    let mut words = vec![(index + 1).to_string(), mark.to_string(), answer.nodes.to_string()];
+    let owner = block.owners[index];
+    let place = match slip {
+        NumberedByOwner => block.places_of(owner).into_iter().filter(|&other| other <= index).count(),
+        _ => index + 1,
+    };
+    let mut words = vec![place.to_string(), mark.to_string(), answer.nodes.to_string()];
     words.extend([answer.label.to_string(), against.to_string()]);
     words.extend(answer.values.iter().map(i64::to_string));
     put(slip, answer.stopped, &mut words, number(slip, searched, index).to_string());
+    match slip {
+        OwnerAt(place) => words.insert(place, owner.to_string()),
+        OwnerBehind => words.push(owner.to_string()),
+        _ => (),
+    }
     words.join(" ")
 }
 
@@ -315,7 +371,7 @@ fn last_words(printed: &str) -> Vec<&str> {
 
 #[test]
 fn with_no_slip_every_stored_listing_is_met() {
-    assert_eq!(names().len(), 22);
+    assert_eq!(names().len(), 24);
     for name in names() {
         let (record, printed) = stored(&name);
         let text = match Searched::of(&record) {
@@ -336,6 +392,13 @@ fn three_samples_tell_every_slip() {
     tells("far", width_slips());
 }
 
+/// Gauges tells what several owners invite.
+#[test]
+fn one_sample_tells_every_slip_of_owners() {
+    assert_eq!(owner_slips().len(), 15);
+    tells("gauges", owner_slips());
+}
+
 /// The distances of the three, which are worked out by hand where their numbers stand.
 #[test]
 fn the_distances_of_three_samples() {
@@ -351,10 +414,16 @@ fn the_distances_of_three_samples() {
 /// Records by chance tell too; their trees are so small that the best labels of all are found at once.
 #[test]
 fn every_slip_is_seen_often() {
+    let is_seen = |slip: Slip, trials: &mut dyn Iterator<Item = Trial>| {
+        let records = trials.map(|trial| trial.record);
+        let small = records.filter(|record| Block::read(record).is_ok_and(|block| block.label_bits() <= 8));
+        is_seen_often(small, |record| listing_with(slip, &Searched::of(record).expect("accepted")) != listing(record))
+    };
     for slip in [number_slips(), tie_slips(), width_slips(), form_slips()].concat() {
-        let by_chance = trials::ties().chain(trials::full_range()).chain(trials::ends()).map(|trial| trial.record);
-        let small = by_chance.filter(|record| Block::read(record).is_ok_and(|block| block.label_bits() <= 8));
-        let tells = |record: &Vec<u8>| listing_with(slip, &Searched::of(record).expect("accepted")) != listing(record);
-        assert!(is_seen_often(small, tells), "{slip:?}");
+        let mut by_chance = trials::ties().chain(trials::full_range()).chain(trials::ends());
+        assert!(is_seen(slip, &mut by_chance), "{slip:?}");
+    }
+    for slip in owner_slips() {
+        assert!(is_seen(slip, &mut owners::records()), "{slip:?}");
     }
 }

@@ -36,24 +36,26 @@ slips! {
         LastLeftOut,
         // The order of checks.
         /// This refusal is asked for before all others.
-        First(Refusal) in [2, 5, 6, 7, 8, 9, 10, 11, 12, 13, 14, 16].map(First),
+        First(Refusal) in [2, 5, 6, 7, 8, 9, 10, 11, 12, 13, 14, 16, 17].map(First),
         /// This one after all others: 13 then comes after 14.
-        Last(Refusal) in [1, 2, 7, 8, 9, 10, 11, 12, 13, 15, 16].map(Last),
+        Last(Refusal) in [1, 2, 7, 8, 9, 10, 11, 12, 13, 15, 16, 17].map(Last),
         /// This one never: an opening that there is not is taken for 1.
-        Never(Refusal) in [1, 2, 7, 8, 9, 10, 11, 12, 13, 14, 15, 16].map(Never),
+        Never(Refusal) in [1, 2, 7, 8, 9, 10, 11, 12, 13, 14, 15, 16, 17].map(Never),
         /// 16 is asked for right before 7, or right after 8.
         WeakAt(Place) in [Place::Clip, Place::Share].map(WeakAt),
+        /// 17 is asked for right after the number that follows the owner, where 9 stands, or behind the vector's last prior.
+        OwnerAfter(Place) in [Place::Diagonal, Place::Prior].map(OwnerAfter),
         // Openings.
-        /// An opening that there is not is taken for 2.
-        UnknownIsTwo,
+        /// An opening that there is not is taken for this.
+        UnknownIs(Opening) in [Opening::Two, Opening::Three].map(UnknownIs),
         /// Only so many bits of the told number are looked at.
         NarrowOpening(u32) in [8, 16, 31].map(NarrowOpening),
         /// The opening is told by its last byte.
         ToldByByte,
-        /// Told this one, the writer takes and makes what the other has, W or none, under the right bytes.
-        OtherLayout(Opening) in Opening::ALL.map(OtherLayout),
-        /// Told this one, it writes the other's bytes before the right numbers.
-        OtherBytes(Opening) in Opening::ALL.map(OtherBytes),
+        /// Told the first, the writer takes and makes what the second has, with W and owners or without, under the right bytes.
+        OtherLayout(Opening, Opening) in pairs_of_openings().map(|(told, other)| OtherLayout(told, other)),
+        /// Told the first, it writes the second's bytes before the right numbers.
+        OtherBytes(Opening, Opening) in pairs_of_openings().map(|(told, other)| OtherBytes(told, other)),
         // Forms.
         /// No group has the high bit.
         NoHighBit,
@@ -76,6 +78,10 @@ slips! {
         WeakLeftOut,
         /// An older record's list has W, too.
         WeakAlways,
+        /// Owners are read, and left out of the list.
+        OwnersLeftOut,
+        /// A list has an owner before its first vector, whatever the opening.
+        OwnersAlways,
     }
     /// Slips of writer and reader, whether bytes or numbers are filled in.
     slips_of_both {
@@ -100,13 +106,23 @@ slips! {
 }
 
 /// The opening that has all places.
-const ALL_PLACES: Opening = Opening::Two;
+const ALL_PLACES: Opening = Opening::Three;
+
+/// Pairs of openings that are not the same.
+fn pairs_of_openings() -> impl Iterator<Item = (Opening, Opening)> {
+    let pairs = Opening::ALL.into_iter().flat_map(|one| Opening::ALL.map(|other| (one, other)));
+    pairs.filter(|(one, other)| one != other)
+}
 
 /// Orders that are not the record's.
 #[derive(Clone, Copy, Debug, PartialEq, Eq)]
 enum Order {
     /// D, W.
     ShareBeforeWeak,
+    /// R's diagonal entry, owner, the rest of the vector.
+    OwnerBehindDiagonal,
+    /// The owner behind its vector.
+    OwnerBehindVector,
     /// R, priors, y.
     PriorsBeforeReceived,
     /// R's diagonal, what is right of it, y, priors.
@@ -117,7 +133,8 @@ enum Order {
 
 use Order::*;
 
-const ORDERS: [Order; 4] = [ShareBeforeWeak, PriorsBeforeReceived, DiagonalsFirst, ReceivedFirst];
+const ORDERS: [Order; 6] =
+    [ShareBeforeWeak, OwnerBehindDiagonal, OwnerBehindVector, PriorsBeforeReceived, DiagonalsFirst, ReceivedFirst];
 
 /// All slips of the writer.
 fn writing_slips() -> Vec<Slip> {
@@ -223,13 +240,17 @@ fn alter<T: Copy + Default>(slip: Slip, decisive: Option<Fault>, made: &Made<T>,
 
 fn write(slip: Slip, list: &List, record: &mut [u8]) -> i64 {
     let told = told(slip, list.opening);
-    let (bytes, layout) = layout(slip, told.unwrap_or(if slip == UnknownIsTwo { Opening::Two } else { Opening::One }));
+    let unknown = match slip {
+        UnknownIs(opening) => Some(opening),
+        _ => None,
+    };
+    let (bytes, layout) = layout(slip, told.or(unknown).unwrap_or(Opening::One));
     let numbers: Vec<i64> = list.numbers.iter().copied().map(i64::from).collect();
     let sizes = narrowed(slip, layout.sizes(), &numbers);
     let places = called_for(slip, layout, &sizes);
     let numbers = narrowed(slip, &places, &numbers);
-    let unknown = (told.is_none() && slip != UnknownIsTwo).then_some(Fault { at: 0, refusal: 1 });
-    let faults = unknown.into_iter().chain(faults(slip, layout, &places, &numbers)).collect();
+    let refused = (told.is_none() && unknown.is_none()).then_some(Fault { at: 0, refusal: 1 });
+    let faults = refused.into_iter().chain(faults(slip, layout, &places, &numbers)).collect();
     fill(slip, faults, &made(slip, bytes, layout, &places, &numbers), record)
 }
 
@@ -244,13 +265,9 @@ fn told(slip: Slip, number: u32) -> Option<Opening> {
 
 /// The opening whose bytes are written, and the one whose numbers are.
 fn layout(slip: Slip, opening: Opening) -> (Opening, Opening) {
-    let other = match opening {
-        Opening::One => Opening::Two,
-        Opening::Two => Opening::One,
-    };
     match slip {
-        OtherLayout(told) if told == opening => (opening, other),
-        OtherBytes(told) if told == opening => (other, opening),
+        OtherLayout(told, other) if told == opening => (opening, other),
+        OtherBytes(told, other) if told == opening => (other, opening),
         _ => (opening, opening),
     }
 }
@@ -297,11 +314,15 @@ fn faults(slip: Slip, opening: Opening, places: &[Place], numbers: &[i64]) -> Ve
     ranged.chain(ends).chain(goes_on).collect()
 }
 
-/// Where a number's range is asked for. A fault of W that is moved is met before that of C, or behind that of D.
+/// Where a number's range is asked for. A fault of W that is moved is met before that of C, or behind that of D, one of an owner behind
+/// that of the number that follows it, or behind the last of its vector. Of faults that are met at one place the earlier number's decides.
 fn met_at(slip: Slip, places: &[Place], at: usize) -> usize {
+    let next_owner = || (at + 1..places.len()).find(|&other| places[other] == Place::Owner);
     match (slip, places[at]) {
         (WeakAt(Place::Clip), Place::Weak) => at - 2,
         (WeakAt(_), Place::Weak) => at + 2,
+        (OwnerAfter(Place::Diagonal), Place::Owner) => at + 2,
+        (OwnerAfter(_), Place::Owner) => next_owner().unwrap_or(places.len()),
         _ => at,
     }
 }
@@ -373,6 +394,9 @@ fn reorder<T>(order: Order, opening: Opening, numbers: &[i64], all: &mut [T], pl
     if !vectors.is_empty() {
         let length = vector_length(opening, numbers);
         vectors.chunks_mut(length).for_each(|vector| vector.sort_by_key(|one| rank_in(order, place(one))));
+        if order == OwnerBehindDiagonal && opening.has_owners() {
+            vectors.chunks_mut(length).filter(|vector| vector.len() > 1).for_each(|vector| vector.swap(0, 1));
+        }
     }
 }
 
@@ -381,6 +405,7 @@ fn rank_in(order: Order, place: Place) -> usize {
     match (order, place) {
         (ShareBeforeWeak, Place::Weak) => 2,
         (ShareBeforeWeak, Place::Share) => 1,
+        (OwnerBehindVector, Place::Owner) => 1,
         (PriorsBeforeReceived, Place::Received) => 2,
         (PriorsBeforeReceived, Place::Prior) => 1,
         (DiagonalsFirst, Place::Right | Place::Received | Place::Prior) => 1,
@@ -404,6 +429,8 @@ fn read(slip: Slip, bytes: &[u8], numbers: &mut [i32]) -> i64 {
     let entries = |(&number, &place): (&i64, &Place)| match slip {
         WeakLeftOut if place == Place::Weak => vec![],
         WeakAlways if place == Place::Clip && !layout.has_weak() => vec![number as i32; 2],
+        OwnersLeftOut if place == Place::Owner => vec![],
+        OwnersAlways if place == Place::Share && !layout.has_owners() => vec![number as i32, 1],
         OtherForm(other) if other == place => vec![(if is_folded(slip, place) { unfold(number) } else { fold(number) }) as i32],
         _ => vec![number as i32],
     };
@@ -428,7 +455,8 @@ fn agree_on_record(slip: Slip, trial: &Trial) -> bool {
 
 /// Records of every M and Q that are accepted, and records that are refused in every way.
 fn records() -> impl Iterator<Item = Trial> {
-    trials::reader_cases().chain(trials::headers()).chain(trials::widths()).chain(trials::ends()).chain(trials::damaged())
+    let refused = trials::headers().chain(trials::owner_numbers()).chain(trials::widths());
+    trials::reader_cases().chain(refused).chain(trials::ends()).chain(trials::damaged())
 }
 
 #[test]
@@ -447,7 +475,7 @@ fn with_no_slip_every_record_agrees() {
 
 #[test]
 fn every_slip_of_the_writer_is_seen_often() {
-    assert_eq!(writing_slips().len(), 247);
+    assert_eq!(writing_slips().len(), 273);
     for slip in writing_slips() {
         assert!(is_seen_often(lists::all(), |list| !agree_on_list(slip, list)), "{slip:?}");
     }
@@ -455,7 +483,7 @@ fn every_slip_of_the_writer_is_seen_often() {
 
 #[test]
 fn every_slip_of_the_reader_is_seen_often() {
-    assert_eq!(reading_slips().len(), 25);
+    assert_eq!(reading_slips().len(), 28);
     for slip in reading_slips() {
         assert!(is_seen_often(records(), |trial| !agree_on_record(slip, trial)), "{slip:?}");
     }

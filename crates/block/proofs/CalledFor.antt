@@ -1,5 +1,5 @@
 -- The kind of each number by its place: a row of R has its diagonal and then two parts of each column right of it, and what is behind it is a
--- matrix with one row less; y and the priors stand behind R; and all vectors are alike. None of these kinds has a range below 0 but where the
+-- matrix with one row less; y and the priors stand behind R; the owner before them; and all vectors are alike. None of these kinds has a range below 0 but where the
 -- number is folded, or above what four groups hold.
 use Prim.Native.Nat.{ℕ, zero, suc, _+_, _-_, _*_, _%_, _≤_, _<_}
 use mathlib.Core.Path.{_≡_, refl, sym, _∙_, ap}
@@ -13,16 +13,16 @@ use lib.ListN.{length, getD, replicate}
 use lib.IntN.{ℤ, pos}
 use lib.Signed.{leZ}
 use Rattle.model.specs.Block.{Every, mostClip}
-use Rattle.block.specs.Reading.{weakCount, headerSize, run, kindsOf, matrixRuns, runsOf, partKinds, vectorSize, kindsOfVector, vectorKinds, countAt, stages}
+use Rattle.block.specs.Reading.{weakCount, ownCount, headerSize, run, kindsOf, matrixRuns, runsOf, partKinds, vectorSize, ownedSize, kindsOfVector, vectorKinds, countAt, stages}
 use Rattle.block.specs.Contents.{headerKinds, recordKinds}
 use Rattle.block.specs.Conditions.{calledFor}
 use Rattle.refusals.specs.declared.Kind.{Kind}
-use Rattle.refusals.specs.declared.Kind.the-variants.{StreamCount, SymbolWidth, VectorCount, ClipLevel, WeakLevel, NodeShare}
+use Rattle.refusals.specs.declared.Kind.the-variants.{StreamCount, SymbolWidth, VectorCount, ClipLevel, WeakLevel, NodeShare, OwnerNumber}
 use Rattle.refusals.specs.declared.Kind.the-variants.{DiagonalEntry, RightPart, ReceivedPart, BitPrior}
 use Rattle.block.specs.declared.Run.{Run}
-use Rattle.block.specs.declared.Part.the-variants.{Limits}
+use Rattle.block.specs.declared.Part.the-variants.{Limits, Vector}
 use Rattle.block.specs.declared.Layout.{Layout}
-use Rattle.block.proofs.Runs.{kindIn, kind-in-front, kind-behind, kind-in-run, kind-behind-run, matrix-numbers, header-numbers, vector-numbers}
+use Rattle.block.proofs.Runs.{kindIn, kind-in-front, kind-behind, kind-in-run, kind-behind-run, matrix-numbers, header-numbers, owned-numbers}
 use Rattle.block.proofs.Stages.{called-front, called-most, called-reach}
 use Rattle.block.proofs.Flat.{whole-kinds}
 use Rattle.block.proofs.Accepted.{kinds-count}
@@ -71,7 +71,6 @@ module _ (m q j : ℕ) where
   received = kindsOf (run ReceivedPart (2 * m) ∷ run BitPrior (m * q) ∷ [])
 
   vector-kinds : kindsOfVector m q ≡ kindsOf (matrixRuns m) ++ received
-  unfolding runsOf
   vector-kinds = kinds-join (matrixRuns m) (run ReceivedPart (2 * m) ∷ run BitPrior (m * q) ∷ [])
 
   pub kind-in-matrix : j < m * m → kindIn (kindsOfVector m q) j ≡ kindIn (kindsOf (matrixRuns m)) j
@@ -92,28 +91,43 @@ module _ (m q j : ℕ) where
       ∙ kind-behind-run ReceivedPart (2 * m) (kindsOf (run BitPrior (m * q) ∷ [])) (j - m * m) (omega arith)
       ∙ kind-in-run BitPrior (m * q) [] (j - m * m - 2 * m) (omega arith)
 
--- All vectors are alike
-pub kind-of-vectors : (n m q i : ℕ) → i < n * vectorSize m q
-    → kindIn (vectorKinds n m q) i ≡ kindIn (kindsOfVector m q) (i % vectorSize m q)
-unfolding vectorKinds
-kind-of-vectors zero m q i h = absurd (omega arith)
-kind-of-vectors (suc n) m q i h = go (ltb i (vectorSize m q)) refl (kind-of-vectors n m q)
-  where
-    many : length (kindsOfVector m q) ≡ vectorSize m q
-    many = vector-numbers m q
+-- With its owner's number before them
+module _ (own m q j : ℕ) where
+  pub kind-owner : j < own → kindIn (partKinds (Vector own m q)) j ≡ OwnerNumber
+  unfolding runsOf kindsOf
+  kind-owner h = kind-in-run OwnerNumber own (kindsOfVector m q) j h
 
-    go : (b : Bool) → ltb i (vectorSize m q) ≡ b
-        → ((i : ℕ) → i < n * vectorSize m q → kindIn (vectorKinds n m q) i ≡ kindIn (kindsOfVector m q) (i % vectorSize m q))
-        → kindIn (kindsOfVector m q ++ vectorKinds n m q) i ≡ kindIn (kindsOfVector m q) (i % vectorSize m q)
+  pub kind-behind-owner : own ≤ j → kindIn (partKinds (Vector own m q)) j ≡ kindIn (kindsOfVector m q) (j - own)
+  unfolding runsOf kindsOf
+  kind-behind-owner h = kind-behind-run OwnerNumber own (kindsOfVector m q) j h
+
+-- All vectors are alike
+pub kind-of-vectors : (n own m q i : ℕ) → i < n * ownedSize own m q
+    → kindIn (vectorKinds n own m q) i ≡ kindIn (partKinds (Vector own m q)) (i % ownedSize own m q)
+unfolding vectorKinds
+kind-of-vectors zero own m q i h = absurd (omega arith)
+kind-of-vectors (suc n) own m q i h = go (ltb i size) refl (kind-of-vectors n own m q)
+  where
+    size : ℕ
+    size = ownedSize own m q
+
+    kinds : List Kind
+    kinds = partKinds (Vector own m q)
+
+    many : length kinds ≡ size
+    many = owned-numbers own m q
+
+    go : (b : Bool) → ltb i size ≡ b → ((i : ℕ) → i < n * size → kindIn (vectorKinds n own m q) i ≡ kindIn kinds (i % size))
+        → kindIn (kinds ++ vectorKinds n own m q) i ≡ kindIn kinds (i % size)
     go true e ih =
-        let l = ltb-true i (vectorSize m q) e in
-        rw (mod-eq-of-lt l) (kind-in-front (kindsOfVector m q) (vectorKinds n m q) i (omega (arith, many)))
+        let l = ltb-true i size e in
+        rw (mod-eq-of-lt l) (kind-in-front kinds (vectorKinds n own m q) i (omega (arith, many)))
     go false e ih =
-        let l = ltb-false i (vectorSize m q) e in
+        let l = ltb-false i size e in
         rw (mod-eq-sub-mod l)
-        (kind-behind (kindsOfVector m q) (vectorKinds n m q) i (omega (arith, many))
-        ∙ ap (λ (s : ℕ). kindIn (vectorKinds n m q) (i - s)) many
-        ∙ ih (i - vectorSize m q) (omega (arith, suc-mul n (vectorSize m q))))
+        (kind-behind kinds (vectorKinds n own m q) i (omega (arith, many))
+        ∙ ap (λ (s : ℕ). kindIn (vectorKinds n own m q) (i - s)) many
+        ∙ ih (i - size) (omega (arith, suc-mul n size)))
 
 -- The kinds of a whole record by their place: the header's, and behind it the vectors'
 module _ (o : Layout) (numbers : List ℤ) where
@@ -121,7 +135,7 @@ module _ (o : Layout) (numbers : List ℤ) where
   header = headerKinds o (getD numbers 0 (pos 0)) (getD numbers 3 (pos 0))
 
   abbrev vectors : List Kind
-  vectors = vectorKinds (countAt 2 numbers) (countAt 0 numbers) (countAt 1 numbers)
+  vectors = vectorKinds (countAt 2 numbers) (ownCount o) (countAt 0 numbers) (countAt 1 numbers)
 
   many : length header ≡ headerSize o
   many = header-numbers o (getD numbers 0 (pos 0)) (getD numbers 3 (pos 0))
@@ -132,12 +146,13 @@ module _ (o : Layout) (numbers : List ℤ) where
 
   pub record-vector : (i : ℕ) → headerSize o ≤ i → i < length (recordKinds o numbers)
       → kindIn (recordKinds o numbers) i
-      ≡ kindIn (kindsOfVector (countAt 0 numbers) (countAt 1 numbers)) ((i - headerSize o) % vectorSize (countAt 0 numbers) (countAt 1 numbers))
+      ≡ kindIn (partKinds (Vector (ownCount o) (countAt 0 numbers) (countAt 1 numbers)))
+      ((i - headerSize o) % ownedSize (ownCount o) (countAt 0 numbers) (countAt 1 numbers))
   unfolding recordKinds
   record-vector i h l =
       kind-behind header vectors i (omega (arith, many))
       ∙ ap (λ (n : ℕ). kindIn vectors (i - n)) many
-      ∙ kind-of-vectors (countAt 2 numbers) (countAt 0 numbers) (countAt 1 numbers) (i - headerSize o) (omega (arith, kinds-count o numbers))
+      ∙ kind-of-vectors (countAt 2 numbers) (ownCount o) (countAt 0 numbers) (countAt 1 numbers) (i - headerSize o) (omega (arith, kinds-count o numbers))
 
   -- What a list calls for is the front of these,
   pub called-at : (i : ℕ) → i < length (calledFor o numbers) → kindIn (calledFor o numbers) i ≡ kindIn (recordKinds o numbers) i
@@ -159,6 +174,7 @@ Grounded VectorCount = Unit {0}
 Grounded ClipLevel = Unit {0}
 Grounded (WeakLevel c) = leZ c (pos mostClip) ≡ true
 Grounded (NodeShare m) = leZ (pos 0) m ≡ true
+Grounded OwnerNumber = Unit {0}
 Grounded DiagonalEntry = Unit {0}
 Grounded RightPart = Unit {0}
 Grounded ReceivedPart = Unit {0}
@@ -177,14 +193,15 @@ unfolding kindsOf matrixRuns
 matrix-grounded zero rest h = h
 matrix-grounded (suc m) rest h = (tt, every-run RightPart (2 * m) (kindsOf (matrixRuns m ++ rest)) tt (matrix-grounded m rest h))
 
-vectors-grounded : (n m q : ℕ) → Every Grounded (vectorKinds n m q)
+vectors-grounded : (n own m q : ℕ) → Every Grounded (vectorKinds n own m q)
 unfolding vectorKinds runsOf kindsOf
-vectors-grounded zero m q = tt
-vectors-grounded (suc n) m q =
-    every-join (kindsOfVector m q) (vectorKinds n m q)
+vectors-grounded zero own m q = tt
+vectors-grounded (suc n) own m q =
+    every-join (partKinds (Vector own m q)) (vectorKinds n own m q)
+    (every-run OwnerNumber own (kindsOfVector m q) tt
     (matrix-grounded m (run ReceivedPart (2 * m) ∷ run BitPrior (m * q) ∷ [])
-    (every-run ReceivedPart (2 * m) (kindsOf (run BitPrior (m * q) ∷ [])) tt (every-run BitPrior (m * q) [] tt tt)))
-    (vectors-grounded n m q)
+    (every-run ReceivedPart (2 * m) (kindsOf (run BitPrior (m * q) ∷ [])) tt (every-run BitPrior (m * q) [] tt tt))))
+    (vectors-grounded n own m q)
 
 -- by their place
 every-at : (ks : List Kind) → Every Grounded ks → (i : ℕ) → i < length ks → Grounded (kindIn ks i)
@@ -211,4 +228,4 @@ record-grounded o numbers (suc (suc (suc (suc i)))) l h k =
     behind =
         every-join limits (vectors o numbers)
         (every-run (WeakLevel (getD numbers 3 (pos 0))) (weakCount o) (NodeShare (getD numbers 0 (pos 0)) ∷ []) (k (omega arith)) (h (omega arith), tt))
-        (vectors-grounded (countAt 2 numbers) (countAt 0 numbers) (countAt 1 numbers))
+        (vectors-grounded (countAt 2 numbers) (ownCount o) (countAt 0 numbers) (countAt 1 numbers))

@@ -23,7 +23,7 @@ use Rattle.block.specs.Reading.{opening, startsWith, layoutOf, stages, s
 use Rattle.block.specs.Contents.{blockOf}
 use Rattle.block.specs.Conditions.{calledFor, Passed, Next, NextIs, OutOfRange, Whole, TurnedBack}
 use Rattle.refusals.specs.declared.Kind.{Kind}
-use Rattle.refusals.specs.declared.Kind.the-variants.{StreamCount, SymbolWidth, VectorCount, ClipLevel, WeakLevel, NodeShare}
+use Rattle.refusals.specs.declared.Kind.the-variants.{StreamCount, SymbolWidth, VectorCount, ClipLevel, WeakLevel, NodeShare, OwnerNumber}
 use Rattle.refusals.specs.declared.Kind.the-variants.{DiagonalEntry, RightPart, ReceivedPart, BitPrior}
 use Rattle.block.specs.declared.Layout.{Layout}
 use Rattle.block.specs.declared.One.{One}
@@ -32,7 +32,7 @@ use Rattle.block.specs.declared.Read.{Read}
 use Rattle.block.specs.declared.Read.the-variants.{Ended, Refused}
 use Rattle.refusals.specs.declared.Refusal.{Refusal}
 use Rattle.refusals.specs.declared.Refusal.the-variants.{Opening, Ends, Malformed, Streams, Width, Vectors, Clip, Share, Diagonal}
-use Rattle.refusals.specs.declared.Refusal.the-variants.{Entry, Received, Prior, Trailing, Buffer, Crowded, Weak}
+use Rattle.refusals.specs.declared.Refusal.the-variants.{Entry, Received, Prior, Trailing, Buffer, Crowded, Weak, Owner}
 use Rattle.block.proofs.Ranges.{crowded-is}
 use Rattle.block.proofs.Reading.{by-turned, one-found, numbers-keep}
 use Rattle.block.proofs.Openings.{starts-short, four, layout-only, unopened}
@@ -170,6 +170,7 @@ by-kind bytes VectorCount o = o
 by-kind bytes ClipLevel o = o
 by-kind bytes (WeakLevel c) o = (c, o)
 by-kind bytes (NodeShare m) o = (m, o)
+by-kind bytes OwnerNumber o = o
 by-kind bytes DiagonalEntry o = o
 by-kind bytes RightPart o = o
 by-kind bytes ReceivedPart o = o
@@ -240,6 +241,7 @@ refused-of bytes Vectors o = range-refused bytes VectorCount o
 refused-of bytes Clip o = range-refused bytes ClipLevel o
 refused-of bytes Weak t = range-refused bytes (WeakLevel (t .0)) (t .1)
 refused-of bytes Share t = range-refused bytes (NodeShare (t .0)) (t .1)
+refused-of bytes Owner o = range-refused bytes OwnerNumber o
 refused-of bytes Diagonal o = range-refused bytes DiagonalEntry o
 refused-of bytes Entry o = range-refused bytes RightPart o
 refused-of bytes Received o = range-refused bytes ReceivedPart o

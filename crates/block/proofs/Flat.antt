@@ -37,15 +37,15 @@ module _ (bytes : List ℕ) (opens : startsWith (opening (layoutOf bytes)) bytes
   called-only zs r e = opened ∙ stages-only (stages (layoutOf bytes)) [] zs bytes 4 r e
 
 -- The vectors are told by the numbers in front
-told-vectors : (n : ℕ) (zs : List ℤ) → 3 ≤ n → vectorStage (take n zs) ≡ vectorStage zs
-told-vectors n zs h = rw (getD-take n zs 0 (pos 0) (omega arith), getD-take n zs 1 (pos 0) (omega arith), getD-take n zs 2 (pos 0) (omega arith))
+told-vectors : (o : Layout) (n : ℕ) (zs : List ℤ) → 3 ≤ n → vectorStage o (take n zs) ≡ vectorStage o zs
+told-vectors o n zs h = rw (getD-take n zs 0 (pos 0) (omega arith), getD-take n zs 1 (pos 0) (omega arith), getD-take n zs 2 (pos 0) (omega arith))
 
 -- All stages of a record
 pub whole-kinds : (o : Layout) (zs : List ℤ) → calledWhole (stages o) 0 zs ≡ recordKinds o zs
 unfolding calledWhole recordKinds kindsOf runsOf
 whole-kinds o zs =
     let behind = 4 + length (limitStage o (take 4 zs)) in
-    rw (told-vectors behind zs (omega arith), getD-take 4 zs 0 (pos 0) (omega arith), getD-take 4 zs 3 (pos 0) (omega arith), getD-take 1 zs 0 (pos 0) (omega arith), append-nil)
+    rw (told-vectors o behind zs (omega arith), getD-take 4 zs 0 (pos 0) (omega arith), getD-take 4 zs 3 (pos 0) (omega arith), getD-take 1 zs 0 (pos 0) (omega arith), append-nil (vectorStage o zs))
 
 -- Numbers that are as many as they call for are a whole record's
 called-kinds : (o : Layout) (zs : List ℤ) → length zs ≡ length (calledFor o zs) → calledFor o zs ≡ recordKinds o zs

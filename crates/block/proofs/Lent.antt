@@ -14,13 +14,13 @@ use Rattle.model.specs.Soft.{upFrom}
 use Rattle.model.specs.Block.{InRange, mostVectors}
 use Rattle.model.proofs.Lists.{map-upFrom}
 use Rattle.block.specs.declared.Layout.{Layout}
-use Rattle.block.specs.Reading.{weakPlace, sharePlace, headerSize, vectorSize, countAt, layoutOf, readRecord, atEnd, readWhole, Got, got, into, mostNumbers}
-use Rattle.block.specs.Contents.{rowsOf, vectorNumbers, vectorRows, blockOf}
+use Rattle.block.specs.Reading.{ownCount, weakPlace, sharePlace, headerSize, vectorSize, ownedSize, countAt, layoutOf, readRecord, atEnd, readWhole, Got, got, into, mostNumbers}
+use Rattle.block.specs.Contents.{rowsOf, vectorStart, ownerAt, vectorNumbers, vectorRows, blockOf}
 use Rattle.block.specs.declared.Read.{Read}
 use Rattle.block.specs.declared.Read.the-variants.{Ended, Refused}
 use Rattle.refusals.specs.declared.Refusal.the-variants.{Trailing}
 use Rattle.block.proofs.Parts.{into-length, all-fit}
-use Rattle.block.proofs.Places.{vectors-count}
+use Rattle.block.proofs.Places.{vectors-count, owner-alike}
 use Rattle.block.proofs.Vectors.{Placed}
 use Rattle.block.proofs.Accepted.{accepted-count, accepted-placed, accepted-in-range}
 
@@ -30,22 +30,36 @@ AllPlaced o numbers = (k : ℕ) → k < countAt 2 numbers → Placed (countAt 0 
 
 -- A record's numbers with others behind them
 module _ (o : Layout) (numbers rest : List ℤ)
-    (many : length numbers ≡ headerSize o + countAt 2 numbers * vectorSize (countAt 0 numbers) (countAt 1 numbers)) where
+    (many : length numbers ≡ headerSize o + countAt 2 numbers * ownedSize (ownCount o) (countAt 0 numbers) (countAt 1 numbers)) where
   -- The header is the record's
   header-same : (i : ℕ) → i < headerSize o → countAt i (numbers ++ rest) ≡ countAt i numbers
   header-same i h = ap natAbs (List·getD-append numbers rest (pos 0) i (omega arith))
+
+  -- A vector is within the record
+  vector-room : (k : ℕ) → k < countAt 2 numbers
+      → vectorStart o numbers k + ownedSize (ownCount o) (countAt 0 numbers) (countAt 1 numbers) ≤ length numbers
+  vector-room k h =
+      let size = ownedSize (ownCount o) (countAt 0 numbers) (countAt 1 numbers) in
+      omega (arith, suc-mul k size, mul-le-mul h (le-refl size))
 
   -- So are the vectors
   vector-same : (k : ℕ) → k < countAt 2 numbers → vectorNumbers o (numbers ++ rest) k ≡ vectorNumbers o numbers k
   vector-same k h =
       let size = vectorSize (countAt 0 numbers) (countAt 1 numbers) in
-      let start = headerSize o + k * size in
-      let room : start + size ≤ length numbers = omega (arith, suc-mul k size, mul-le-mul h (le-refl size)) in
+      let start = vectorStart o numbers k + ownCount o in
+      let room = vector-room k h in
       rw (header-same 0 (omega arith), header-same 1 (omega arith), drop-append-le start numbers rest (omega arith))
       (take-append-le size (drop start numbers) rest (omega (arith, length-drop start numbers)))
 
   rows-same : (k : ℕ) → k < countAt 2 numbers → vectorRows o (numbers ++ rest) k ≡ vectorRows o numbers k
   rows-same k h = λ j. rowsOf (header-same 0 (omega arith) j) (header-same 1 (omega arith) j) (vector-same k h j)
+
+  -- their owners
+  owner-same : (k : ℕ) → k < countAt 2 numbers → ownerAt o (numbers ++ rest) k ≡ ownerAt o numbers k
+  owner-same k h =
+      owner-alike o (numbers ++ rest) numbers k (λ some.
+      rw (header-same 0 (omega arith), header-same 1 (omega arith))
+      (ap natAbs (List·getD-append numbers rest (pos 0) (vectorStart o numbers k) (omega (arith, vector-room k h)))))
 
   -- and the block
   block-same : blockOf o (numbers ++ rest) ≡ blockOf o numbers
@@ -54,12 +68,16 @@ module _ (o : Layout) (numbers rest : List ℤ)
       let vectors =
       ap (λ (n : ℕ). map (vectorRows o (numbers ++ rest)) (upFrom 0 n)) (header-same 2 (omega arith))
       ∙ map-upFrom (vectorRows o (numbers ++ rest)) (vectorRows o numbers) 0 (countAt 2 numbers) (λ k h. rows-same k (omega arith)) in
+      let owners =
+      ap (λ (n : ℕ). map (ownerAt o (numbers ++ rest)) (upFrom 0 n)) (header-same 2 (omega arith))
+      ∙ map-upFrom (ownerAt o (numbers ++ rest)) (ownerAt o numbers) 0 (countAt 2 numbers) (λ k h. owner-same k (omega arith)) in
       λ j. record {
         streams = header-same 0 (omega arith) j;
         width = header-same 1 (omega arith) j;
         clip = header-same 3 (omega arith) j;
         weak = header-same (weakPlace o) (omega arith) j;
         share = header-same (sharePlace o) (omega arith) j;
+        owners = owners j;
         vectors = vectors j;
       }
 
@@ -79,7 +97,7 @@ ended n (Refused r) at e = let z : _≡_ {A = ℕ} 0 1 = cc in absurd (omega ari
 
 -- All vectors of a block in range are within the list
 pub vectors-fit : (o : Layout) (list : List ℤ) → InRange (blockOf o list)
-    → headerSize o + countAt 2 list * vectorSize (countAt 0 list) (countAt 1 list) ≤ mostNumbers
+    → headerSize o + countAt 2 list * ownedSize (ownCount o) (countAt 0 list) (countAt 1 list) ≤ mostNumbers
 unfolding blockOf
 vectors-fit o list h =
     all-fit o (countAt 0 list) (countAt 1 list) (countAt 2 list) (h .streams) (h .label)
@@ -106,13 +124,13 @@ module _ (bytes : List ℕ) (at : ℕ) (list list′ : List ℤ) (room : length 
       ∙ ap (λ (n : ℕ). numbers ++ drop n list) all
 
   -- Its first numbers, as many as its own M, Q and N say, are the record's
-  pub lent-numbers : take (headerSize (layoutOf bytes) + countAt 2 list′ * vectorSize (countAt 0 list′) (countAt 1 list′)) list′ ≡ readWhole bytes .numbers
+  pub lent-numbers : take (headerSize (layoutOf bytes) + countAt 2 list′ * ownedSize (ownCount (layoutOf bytes)) (countAt 0 list′) (countAt 1 list′)) list′ ≡ readWhole bytes .numbers
   unfolding readWhole
   lent-numbers =
       let numbers = readRecord bytes .numbers in
       let rest = drop (length numbers) list in
       let count = accepted-count bytes at lent-ended in
-      subst (λ (l : List ℤ). take (headerSize (layoutOf bytes) + countAt 2 l * vectorSize (countAt 0 l) (countAt 1 l)) l ≡ numbers) (sym lent-is)
+      subst (λ (l : List ℤ). take (headerSize (layoutOf bytes) + countAt 2 l * ownedSize (ownCount (layoutOf bytes)) (countAt 0 l) (countAt 1 l)) l ≡ numbers) (sym lent-is)
       (rw (header-same (layoutOf bytes) numbers rest count 2 (omega arith), header-same (layoutOf bytes) numbers rest count 0 (omega arith), header-same (layoutOf bytes) numbers rest count 1 (omega arith), ← count)
       (take-append-seam numbers rest))
 

@@ -13,7 +13,7 @@ use borrow.Author.Tests.{eqb-true}
 use Rattle.block.specs.Reading.{opening, startsWith, layoutOf}
 use Rattle.refusals.proofs.Tests.{and-left, and-right}
 use Rattle.block.specs.declared.Layout.{Layout}
-use Rattle.block.specs.declared.Layout.the-variants.{Base, Weakened}
+use Rattle.block.specs.declared.Layout.the-variants.{Base, Weakened, Owned}
 
 and-none : (b : Bool) → (b && false) ≡ false
 and-none true = refl
@@ -44,13 +44,19 @@ starts-at (x ∷ p) (y ∷ l) e (suc i) h = starts-at p l (and-right (eqb x y) (
 pub four : (o : Layout) → length (opening o) ≡ 4
 four Base = refl
 four Weakened = refl
+four Owned = refl
 
 -- The openings differ in their last byte
 last-tells : (o p : Layout) → getD (opening o) 3 0 ≡ getD (opening p) 3 0 → o ≡ p
 last-tells Base Base e = refl
 last-tells Base Weakened e = absurd (omega arith)
+last-tells Base Owned e = absurd (omega arith)
 last-tells Weakened Base e = absurd (omega arith)
 last-tells Weakened Weakened e = refl
+last-tells Weakened Owned e = absurd (omega arith)
+last-tells Owned Base e = absurd (omega arith)
+last-tells Owned Weakened e = absurd (omega arith)
+last-tells Owned Owned e = refl
 
 -- So a list starts with one at most
 opens-once : (o p : Layout) (bytes : List ℕ) → startsWith (opening o) bytes ≡ true → startsWith (opening p) bytes ≡ true → o ≡ p
@@ -60,15 +66,18 @@ opens-once o p bytes e f =
 -- and has its layout
 pub layout-only : (o : Layout) (bytes : List ℕ) → startsWith (opening o) bytes ≡ true → layoutOf bytes ≡ o
 unfolding layoutOf
-layout-only o bytes e = go (startsWith (opening Weakened) bytes) refl
+layout-only o bytes e = go (startsWith (opening Owned) bytes) (startsWith (opening Weakened) bytes) refl refl
   where
-    other : (x : Layout) → startsWith (opening Weakened) bytes ≡ false → startsWith (opening x) bytes ≡ true → Base ≡ x
-    other Base f g = refl
-    other Weakened f g = absurd (true≢false (sym g ∙ f))
+    other : (x : Layout) → startsWith (opening Owned) bytes ≡ false → startsWith (opening Weakened) bytes ≡ false
+        → startsWith (opening x) bytes ≡ true → Base ≡ x
+    other Base f g h = refl
+    other Weakened f g h = absurd (true≢false (sym h ∙ g))
+    other Owned f g h = absurd (true≢false (sym h ∙ f))
 
-    go : (b : Bool) → startsWith (opening Weakened) bytes ≡ b → cond b Weakened Base ≡ o
-    go true f = opens-once Weakened o bytes f e
-    go false f = other o f e
+    go : (a b : Bool) → startsWith (opening Owned) bytes ≡ a → startsWith (opening Weakened) bytes ≡ b → cond a Owned (cond b Weakened Base) ≡ o
+    go true b f g = opens-once Owned o bytes f e
+    go false true f g = opens-once Weakened o bytes g e
+    go false false f g = other o f g e
 
 -- One that starts with no opening does not with that of its layout, and the other way
 pub unopened : (bytes : List ℕ) → startsWith (opening (layoutOf bytes)) bytes ≡ false → (o : Layout) → startsWith (opening o) bytes ≡ false

@@ -14,7 +14,7 @@ use Rattle.model.specs.Block.{_∈_, widths, mostStreams, mostWidth, mostBits, 
 use Rattle.refusals.specs.Table.{crowded, allowed}
 use Rattle.block.proofs.Ranges.{Plain, between-plain, OneOf, allowed-width, allowed-uncrowded}
 use Rattle.block.proofs.Reading.{one-found, into-none, append-ended, append-refused}
-use Rattle.block.specs.Reading.{weakCount, headerSize, oneAt, Parse, byOne, numbersAt, andThen, partKinds, partAt, vectorSize, vectorKinds, readRecord, atEnd, readWhole, Got, got, into, mostNumbers}
+use Rattle.block.specs.Reading.{weakCount, ownCount, headerSize, oneAt, Parse, byOne, numbersAt, andThen, partKinds, partAt, ownedSize, vectorKinds, readRecord, atEnd, readWhole, Got, got, into, mostNumbers}
 use Rattle.refusals.specs.declared.Kind.{Kind}
 use Rattle.refusals.specs.declared.Kind.the-variants.{StreamCount, SymbolWidth}
 use Rattle.block.specs.declared.One.{One}
@@ -24,8 +24,8 @@ use Rattle.block.specs.declared.Read.the-variants.{Ended, Refused}
 use Rattle.refusals.specs.declared.Refusal.{Refusal}
 use Rattle.block.specs.declared.Part.the-variants.{Vector}
 use Rattle.block.specs.declared.Layout.{Layout}
-use Rattle.block.specs.declared.Layout.the-variants.{Base, Weakened}
-use Rattle.block.proofs.Runs.{vector-numbers}
+use Rattle.block.specs.declared.Layout.the-variants.{Base, Weakened, Owned}
+use Rattle.block.proofs.Runs.{owned-numbers}
 
 -- A run of stores after another
 pub sets-append : {A : Type 0} (a b l : List A) (i : ℕ) → sets l i (a ++ b) ≡ sets (sets l i a) (i + length a) b
@@ -88,8 +88,8 @@ allowed-at (k ∷ ks) (z ∷ zs) a zero d h = a .0
 allowed-at (k ∷ ks) (z ∷ zs) a (suc i) d h = allowed-at ks zs (a .1) i d (omega arith)
 
 -- n vectors, after k of them
-module _ (n k m q : ℕ) (bytes : List ℕ) (place to : ℕ) (list : List ℤ) where
-  pub rest-none : n ≤ k → into to (numbersAt (vectorKinds (n - k) m q) bytes place) list ≡ got (Ended place) list
+module _ (n k own m q : ℕ) (bytes : List ℕ) (place to : ℕ) (list : List ℤ) where
+  pub rest-none : n ≤ k → into to (numbersAt (vectorKinds (n - k) own m q) bytes place) list ≡ got (Ended place) list
   unfolding vectorKinds
   rest-none h = let e : n - k ≡ 0 = omega arith in rw e (into-none bytes place to list)
 
@@ -100,32 +100,41 @@ module _ (n k m q : ℕ) (bytes : List ℕ) (place to : ℕ) (list : List ℤ) w
     pub rest-room : (s : ℕ) → (n - k) * s ≡ (n - (k + 1)) * s + s
     rest-room s = ap (λ (x : ℕ). x * s) more ∙ suc-mul (n - (k + 1)) s
 
-    pub rest-ended : (list′ : List ℤ) (next : ℕ) → got (Ended next) list′ ≡ into to (partAt (Vector m q) bytes place) list
-        → into to (numbersAt (vectorKinds (n - k) m q) bytes place) list
-        ≡ into (to + vectorSize m q) (numbersAt (vectorKinds (n - (k + 1)) m q) bytes next) list′
+    pub rest-ended : (list′ : List ℤ) (next : ℕ) → got (Ended next) list′ ≡ into to (partAt (Vector own m q) bytes place) list
+        → into to (numbersAt (vectorKinds (n - k) own m q) bytes place) list
+        ≡ into (to + ownedSize own m q) (numbersAt (vectorKinds (n - (k + 1)) own m q) bytes next) list′
     unfolding vectorKinds
     rest-ended list′ next e =
         rw more
-        (append-ended (vectorKinds (n - (k + 1)) m q) bytes (partKinds (Vector m q)) place to next list list′ e
-        ∙ ap (λ (s : ℕ). into (to + s) (numbersAt (vectorKinds (n - (k + 1)) m q) bytes next) list′) (vector-numbers m q))
+        (append-ended (vectorKinds (n - (k + 1)) own m q) bytes (partKinds (Vector own m q)) place to next list list′ e
+        ∙ ap (λ (s : ℕ). into (to + s) (numbersAt (vectorKinds (n - (k + 1)) own m q) bytes next) list′) (owned-numbers own m q))
 
-    pub rest-refused : (list′ : List ℤ) (r : Refusal) → got (Refused r) list′ ≡ into to (partAt (Vector m q) bytes place) list
-        → into to (numbersAt (vectorKinds (n - k) m q) bytes place) list ≡ got (Refused r) list′
+    pub rest-refused : (list′ : List ℤ) (r : Refusal) → got (Refused r) list′ ≡ into to (partAt (Vector own m q) bytes place) list
+        → into to (numbersAt (vectorKinds (n - k) own m q) bytes place) list ≡ got (Refused r) list′
     unfolding vectorKinds
     rest-refused list′ r e =
-        rw more (append-refused (vectorKinds (n - (k + 1)) m q) bytes (partKinds (Vector m q)) place to r list list′ e)
+        rw more (append-refused (vectorKinds (n - (k + 1)) own m q) bytes (partKinds (Vector own m q)) place to r list list′ e)
 
 -- No layout has more than one W
 pub weak-few : (o : Layout) → weakCount o ≤ 1
 weak-few Base = omega arith
 weak-few Weakened = omega arith
+weak-few Owned = omega arith
+
+-- or more than one owner before a vector
+pub own-few : (o : Layout) → ownCount o ≤ 1
+own-few Base = omega arith
+own-few Weakened = omega arith
+own-few Owned = omega arith
+
+-- A vector with its owner has at most 49 numbers
+pub size-most : (own m q : ℕ) → own ≤ 1 → m ≤ mostStreams → m * q ≤ mostBits → ownedSize own m q ≤ 49
+size-most own m q few h k = omega (arith, mul-le-mul h h)
 
 -- All vectors of a record fit the list behind the header
 pub all-fit : (o : Layout) (m q n : ℕ) → m ≤ mostStreams → m * q ≤ mostBits → n ≤ mostVectors
-    → headerSize o + n * vectorSize m q ≤ mostNumbers
-all-fit o m q n h k l =
-    let most : vectorSize m q ≤ 48 = omega (arith, mul-le-mul h h) in
-    omega (arith, weak-few o, mul-le-mul l most)
+    → headerSize o + n * ownedSize (ownCount o) m q ≤ mostNumbers
+all-fit o m q n h k l = omega (arith, weak-few o, mul-le-mul l (size-most (ownCount o) m q (own-few o) h k))
 
 -- A plain number is its magnitude
 pub plain-most : {a b : ℕ} {z : ℤ} → Plain a b z → natAbs z ≤ b

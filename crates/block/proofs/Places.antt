@@ -2,22 +2,29 @@
 -- part of y and its priors begin behind theirs.
 use Prim.Native.Nat.{ℕ, zero, suc, _+_, _-_, _*_, _<_, _≤_}
 use mathlib.Core.Path.{_≡_, refl, _∙_, ap}
-use mathlib.Core.List.{List, _++_}
+use mathlib.Core.List.{List, [], _∷_, _++_}
 use native.Mathlib.Omega.{arith}
 use native.Mathlib.Nat.{suc-mul, mul-suc, mul-le-mul, le-refl}
 use lib.ListN.{length, getD, take, drop, length-take, length-drop}
-use lib.Seq.{getD-take, getD-drop, drop-drop, take-add}
+use lib.Seq.{getD-take, getD-drop, drop-drop, take-add, take-nil}
 use lib.IntN.{ℤ, pos, natAbs}
 use Rattle.model.specs.Constellation.{Complex}
 use Rattle.model.specs.Metric.{Row, allPriors}
 use Rattle.model.proofs.Lists.{length-upFrom, getD-places}
-use Rattle.block.specs.Reading.{vectorSize, countAt}
+use Rattle.block.specs.Reading.{ownCount, vectorSize, countAt}
 use Rattle.block.specs.declared.Layout.{Layout}
-use Rattle.block.specs.Contents.{complexAt, complexes, rowFrom, rowsFrom, rowsOf, vectorRows, blockOf}
+use Rattle.block.specs.declared.Layout.the-variants.{Base, Weakened, Owned}
+use Rattle.block.specs.Contents.{complexAt, complexes, rowFrom, rowsFrom, rowsOf, vectorStart, ownerAt, vectorRows, blockOf}
 
 -- Two cuts are one
 pub drop-two : (n m k : ℕ) (l : List ℤ) → n + m ≡ k → drop m (drop n l) ≡ drop k l
 drop-two n m k l e = drop-drop m n l ∙ ap (λ (i : ℕ). drop i l) e
+
+-- What is behind the first numbers of a cut is a cut of what is behind them
+pub drop-take : {A : Type 0} (n m : ℕ) (l : List A) → drop n (take (n + m) l) ≡ take m (drop n l)
+drop-take zero m l = let e : 0 + m ≡ m = omega arith in rw e
+drop-take (suc n) m [] = let e : suc n + m ≡ suc (n + m) = omega arith in rw (e, take-nil m)
+drop-take (suc n) m (x ∷ l) = let e : suc n + m ≡ suc (n + m) = omega arith in rw e (drop-take n m l)
 
 complex-drop : (n : ℕ) (zs : List ℤ) (i : ℕ) → complexAt (drop n zs) i ≡ complexAt zs (n + i)
 complex-drop n zs i = let e : n + (i + 1) ≡ n + i + 1 = omega arith in simp (getD-drop, e)
@@ -133,8 +140,32 @@ pub vectors-count : (o : Layout) (numbers : List ℤ) → length (blockOf o numb
 unfolding blockOf
 vectors-count o numbers = length-upFrom (vectorRows o numbers) 0 (countAt 2 numbers)
 
+-- and as many owners
+pub owners-count : (o : Layout) (numbers : List ℤ) → length (blockOf o numbers .owners) ≡ countAt 2 numbers
+unfolding blockOf
+owners-count o numbers = length-upFrom (ownerAt o numbers) 0 (countAt 2 numbers)
+
+-- An owner stands before its vector, or is 1
+pub owner-told : (o : Layout) (numbers : List ℤ) (k : ℕ) (P : ℕ → Type 0) → (ownCount o ≡ 0 → P 1)
+    → (1 ≤ ownCount o → P (countAt (vectorStart o numbers k) numbers)) → P (ownerAt o numbers k)
+owner-told Base numbers k P one told = one refl
+owner-told Weakened numbers k P one told = one refl
+owner-told Owned numbers k P one told = told (omega arith)
+
+-- In two lists it is the same if it is where it stands
+pub owner-alike : (o : Layout) (a b : List ℤ) (k : ℕ) → (1 ≤ ownCount o → countAt (vectorStart o a k) a ≡ countAt (vectorStart o b k) b)
+    → ownerAt o a k ≡ ownerAt o b k
+owner-alike Base a b k same = refl
+owner-alike Weakened a b k same = refl
+owner-alike Owned a b k same = same (omega arith)
+
 -- Vector k of a block, from 0
 pub vector-at : (o : Layout) (numbers : List ℤ) (k : ℕ) (d : List Row) → k < countAt 2 numbers
     → getD (blockOf o numbers .vectors) k d ≡ vectorRows o numbers k
 unfolding blockOf
 vector-at o numbers k d h = getD-places (vectorRows o numbers) d (countAt 2 numbers) k h
+
+-- and its owner
+pub owner-at : (o : Layout) (numbers : List ℤ) (k : ℕ) → k < countAt 2 numbers → getD (blockOf o numbers .owners) k 0 ≡ ownerAt o numbers k
+unfolding blockOf
+owner-at o numbers k h = getD-places (ownerAt o numbers) 0 (countAt 2 numbers) k h

@@ -1,15 +1,16 @@
--- Computed readings: document 01's listing record says its block, a record with W says its own, where W is turned back, and where each number
--- of a vector of three rows belongs.
+-- Computed readings: document 01's listing record says its block, a record with W and one with owners say theirs, where W and an owner are
+-- turned back, and where each number of a vector of three rows belongs.
 use Prim.Native.Nat.{ℕ}
 use mathlib.Core.Path.{_≡_, refl}
-use mathlib.Core.List.{List, [], _∷_, _++_}
+use mathlib.Core.List.{List, [], _∷_, _++_, map}
 use lib.IntN.{ℤ, pos, negsuc}
 use Rattle.model.specs.Constellation.{Complex}
 use Rattle.model.specs.Metric.{Row}
 use Rattle.model.specs.Soft.{upFrom}
 use Rattle.model.specs.Block.{Block}
+use Rattle.block.specs.declared.Read.{Read}
 use Rattle.block.specs.declared.Read.the-variants.{Refused}
-use Rattle.refusals.specs.declared.Refusal.the-variants.{Weak, Clip}
+use Rattle.refusals.specs.declared.Refusal.the-variants.{Ends, Malformed, Weak, Clip, Share, Owner, Diagonal, Prior}
 use Rattle.wire.specs.Reading.{numberAt, groups, aboveDigits, lastGroup}
 use Rattle.wire.specs.Folding.{unfolded}
 use Rattle.block.specs.Reading.{byNumber, numbersAt, kindsOf, runsOf, matrixRuns, vectorKinds, startsWith, layoutOf, stagesAt, readRecord}
@@ -37,7 +38,7 @@ abbrev said : List ℕ → Block
 said bytes = blockOf (layoutOf bytes) (readRecord bytes .numbers)
 
 -- The listing record says this block
-pub listing-block : said listingRecord ≡ record { streams = 2; width = 1; clip = 10; weak = 10; share = 3; vectors = rows ∷ rows ∷ [] }
+pub listing-block : said listingRecord ≡ record { streams = 2; width = 1; clip = 10; weak = 10; share = 3; owners = 1 ∷ 1 ∷ []; vectors = rows ∷ rows ∷ [] }
 unfolding blockOf readRecord layoutOf stagesAt vectorKinds numbersAt kindsOf runsOf matrixRuns byNumber numberAt groups aboveDigits
     lastGroup unfolded startsWith rowsOf rowsFrom complexes upFrom
 listing-block = refl
@@ -47,7 +48,7 @@ abbrev pub weakenedRecord : List ℕ
 weakenedRecord =
     0x43 ∷ 0x42 ∷ 0x52 ∷ 0x32 ∷ 0x02 ∷ 0x01 ∷ 0x01 ∷ 0x0A ∷ 0x07 ∷ 0x04 ∷ 0x01 ∷ 0x02 ∷ 0x00 ∷ 0x01 ∷ 0x02 ∷ 0x00 ∷ 0x01 ∷ 0x00 ∷ 0x00 ∷ 0x00 ∷ []
 
-pub weakened-block : said weakenedRecord ≡ record { streams = 2; width = 1; clip = 10; weak = 7; share = 4; vectors = rows ∷ [] }
+pub weakened-block : said weakenedRecord ≡ record { streams = 2; width = 1; clip = 10; weak = 7; share = 4; owners = 1 ∷ []; vectors = rows ∷ [] }
 unfolding blockOf readRecord layoutOf stagesAt vectorKinds numbersAt kindsOf runsOf matrixRuns byNumber numberAt groups aboveDigits
     lastGroup unfolded startsWith rowsOf rowsFrom complexes upFrom
 weakened-block = refl
@@ -65,6 +66,48 @@ pub clip-first : readRecord (header ++ 0x80 ∷ 0x80 ∷ 0x80 ∷ 0x08 ∷ 0x81 
 unfolding readRecord layoutOf stagesAt vectorKinds numbersAt kindsOf runsOf matrixRuns byNumber numberAt groups aboveDigits
     lastGroup unfolded startsWith
 clip-first = refl
+
+-- The same vector of owners 3 and 1, with C = 10, W = 7 and D = 4
+abbrev pub vectorBytes : List ℕ
+vectorBytes = 0x01 ∷ 0x02 ∷ 0x00 ∷ 0x01 ∷ 0x02 ∷ 0x00 ∷ 0x01 ∷ 0x00 ∷ 0x00 ∷ 0x00 ∷ []
+
+abbrev ownedHeader : List ℕ
+ownedHeader = 0x43 ∷ 0x42 ∷ 0x52 ∷ 0x33 ∷ 0x02 ∷ 0x01 ∷ 0x02 ∷ 0x0A ∷ 0x07 ∷ 0x04 ∷ []
+
+pub owned-block : said (ownedHeader ++ (0x03 ∷ vectorBytes) ++ 0x01 ∷ vectorBytes)
+    ≡ record { streams = 2; width = 1; clip = 10; weak = 7; share = 4; owners = 3 ∷ 1 ∷ []; vectors = rows ∷ rows ∷ [] }
+unfolding blockOf readRecord layoutOf stagesAt vectorKinds numbersAt kindsOf runsOf matrixRuns byNumber numberAt groups aboveDigits
+    lastGroup unfolded startsWith rowsOf rowsFrom complexes upFrom
+owned-block = refl
+
+-- One stream of one bit of owner 4: C = 5, W = 3, D = 1, R = 1, y = 2, prior 10
+abbrev pub ownedRecord : List ℕ
+ownedRecord =
+    0x43 ∷ 0x42 ∷ 0x52 ∷ 0x33 ∷ 0x01 ∷ 0x01 ∷ 0x01 ∷ 0x05 ∷ 0x03 ∷ 0x01 ∷ 0x04 ∷ 0x01 ∷ 0x04 ∷ 0x00 ∷ 0x14 ∷ []
+
+-- An owner of 5, of 0, and 128 in two groups are refused by 17, though the diagonal behind it is 0; one that is missing by 2, and 4 in two
+-- groups by 3; of 1 to 4 the diagonal is. A share below M comes first, and so does a prior of the vector before
+unfoldable pub refusedBy : List ℕ → Read
+unfolding readRecord layoutOf stagesAt vectorKinds numbersAt kindsOf runsOf matrixRuns byNumber numberAt groups aboveDigits lastGroup unfolded startsWith
+refusedBy behind = readRecord (0x43 ∷ 0x42 ∷ 0x52 ∷ 0x33 ∷ 0x01 ∷ 0x01 ∷ 0x02 ∷ 0x05 ∷ 0x03 ∷ behind) .read
+
+unfoldable pub behindClips : List (List ℕ)
+behindClips =
+    (0x01 ∷ 0x05 ∷ 0x00 ∷ [])
+    ∷ (0x01 ∷ 0x00 ∷ 0x00 ∷ [])
+    ∷ (0x01 ∷ 0x80 ∷ 0x01 ∷ 0x00 ∷ [])
+    ∷ (0x01 ∷ [])
+    ∷ (0x01 ∷ 0x84 ∷ 0x00 ∷ [])
+    ∷ (0x01 ∷ 0x04 ∷ 0x00 ∷ [])
+    ∷ (0x00 ∷ 0x05 ∷ [])
+    ∷ (0x01 ∷ 0x04 ∷ 0x01 ∷ 0x00 ∷ 0x00 ∷ 0xFF ∷ 0xFF ∷ 0xFF ∷ 0x01 ∷ 0x05 ∷ [])
+    ∷ (0x01 ∷ 0x04 ∷ 0x01 ∷ 0x00 ∷ 0x00 ∷ 0x00 ∷ 0x05 ∷ [])
+    ∷ []
+
+pub owners-refused : map refusedBy behindClips
+    ≡ map Refused (Owner ∷ Owner ∷ Owner ∷ Ends ∷ Malformed ∷ Diagonal ∷ Share ∷ Prior ∷ Owner ∷ [])
+unfolding refusedBy behindClips
+owners-refused = refl
 
 abbrev numbers : List ℤ
 numbers =

@@ -10,11 +10,11 @@ use native.Mathlib.Numerals.{add-one}
 use lib.ListN.{length, getD, drop, replicate, length-append, length-replicate, getD-replicate, drop-of-length-le, List·getD-append}
 use lib.Seq.{drop-cons, getD-append-add}
 use lib.IntN.{ℤ}
-use Rattle.block.specs.Reading.{weakCount, sharePlace, headerSize, run, noRun, kindsOf, matrixRuns, runsOf, partKinds, numbersAt, got, into}
+use Rattle.block.specs.Reading.{weakCount, sharePlace, headerSize, run, noRun, kindsOf, matrixRuns, vectorRuns, runsOf, partKinds, vectorSize, ownedSize, numbersAt, got, into}
 use Rattle.block.specs.Contents.{headerKinds}
 use Rattle.block.proofs.Reading.{into-none, append-ended, append-refused}
 use Rattle.refusals.specs.declared.Kind.{Kind}
-use Rattle.refusals.specs.declared.Kind.the-variants.{StreamCount, WeakLevel, NodeShare, DiagonalEntry, RightPart, ReceivedPart, BitPrior}
+use Rattle.refusals.specs.declared.Kind.the-variants.{StreamCount, WeakLevel, NodeShare, OwnerNumber, DiagonalEntry, RightPart, ReceivedPart, BitPrior}
 use Rattle.block.specs.declared.Read.the-variants.{Ended, Refused}
 use Rattle.refusals.specs.declared.Refusal.{Refusal}
 use Rattle.block.specs.declared.Run.{Run}
@@ -51,21 +51,27 @@ module _ (m q i : ℕ) where
   at : (j k : ℕ) → j ≡ k → getD (matrixRuns m ++ behind m q) j noRun ≡ getD (matrixRuns m ++ behind m q) k noRun
   at j k e = ap (λ (n : ℕ). getD (matrixRuns m ++ behind m q) n noRun) e
 
-  pub run-diagonal : i < 2 * m → i % 2 ≡ 0 → getD (runsOf (Vector m q)) i noRun ≡ run DiagonalEntry 1
-  unfolding runsOf
+  pub run-diagonal : i < 2 * m → i % 2 ≡ 0 → getD (vectorRuns m q) i noRun ≡ run DiagonalEntry 1
   run-diagonal h e = at i (2 * (i / 2)) (omega arith) ∙ row-diagonal m (behind m q) (i / 2) (omega arith)
 
-  pub run-right : i < 2 * m → i % 2 ≢ 0 → getD (runsOf (Vector m q)) i noRun ≡ run RightPart (2 * (m - 1 - i / 2))
-  unfolding runsOf
+  pub run-right : i < 2 * m → i % 2 ≢ 0 → getD (vectorRuns m q) i noRun ≡ run RightPart (2 * (m - 1 - i / 2))
   run-right h e = at i (suc (2 * (i / 2))) (omega arith) ∙ row-right m (behind m q) (i / 2) (omega arith)
 
-  pub run-received : i ≡ 2 * m → getD (runsOf (Vector m q)) i noRun ≡ run ReceivedPart (2 * m)
-  unfolding runsOf
+  pub run-received : i ≡ 2 * m → getD (vectorRuns m q) i noRun ≡ run ReceivedPart (2 * m)
   run-received e = at i (length (matrixRuns m) + 0) (omega (arith, matrix-count m)) ∙ getD-append-add (matrixRuns m) (behind m q) 0 noRun
 
-  pub run-prior : i ≡ 2 * m + 1 → getD (runsOf (Vector m q)) i noRun ≡ run BitPrior (m * q)
-  unfolding runsOf
+  pub run-prior : i ≡ 2 * m + 1 → getD (vectorRuns m q) i noRun ≡ run BitPrior (m * q)
   run-prior e = at i (length (matrixRuns m) + 1) (omega (arith, matrix-count m)) ∙ getD-append-add (matrixRuns m) (behind m q) 1 noRun
+
+-- With its owner's run in front: that one, and the others
+module _ (own m q i : ℕ) where
+  pub run-owner : i ≡ 0 → getD (runsOf (Vector own m q)) i noRun ≡ run OwnerNumber own
+  unfolding runsOf
+  run-owner e = rw e
+
+  pub run-later : i ≢ 0 → getD (runsOf (Vector own m q)) i noRun ≡ getD (vectorRuns m q) (i - 1) noRun
+  unfolding runsOf
+  run-later h = let e : i ≡ suc (i - 1) = omega arith in ap (λ (j : ℕ). getD (run OwnerNumber own ∷ vectorRuns m q) j noRun) e
 
 -- The kind at a place of a list
 abbrev pub kindIn : List Kind → ℕ → Kind
@@ -89,9 +95,9 @@ kind-behind-run k n b i h =
     ∙ ap (λ (l : ℕ). kindIn b (i - l)) (length-replicate n k)
 
 -- How many runs, and how many numbers
-pub vector-runs : (m q : ℕ) → length (runsOf (Vector m q)) ≡ 2 * m + 2
+pub vector-runs : (own m q : ℕ) → length (runsOf (Vector own m q)) ≡ 2 * m + 3
 unfolding runsOf
-vector-runs m q = length-append (matrixRuns m) (behind m q) ∙ ap (λ (n : ℕ). n + 2) (matrix-count m)
+vector-runs own m q = omega (arith, length-append (matrixRuns m) (behind m q), matrix-count m)
 
 pub run-numbers : (k : Kind) (n : ℕ) (ks : List Kind) → length (replicate n k ++ ks) ≡ n + length ks
 run-numbers k n ks = length-append (replicate n k) ks ∙ ap (λ (x : ℕ). x + length ks) (length-replicate n k)
@@ -127,8 +133,8 @@ unfolding kindsOf matrixRuns
 matrix-numbers zero = refl
 matrix-numbers (suc m) = omega (arith, run-numbers RightPart (2 * m) (kindsOf (matrixRuns m)), matrix-numbers m, suc-mul m (suc m), mul-suc m m)
 
-pub vector-numbers : (m q : ℕ) → length (kindsOf (runsOf (Vector m q))) ≡ m * m + 2 * m + m * q
-unfolding runsOf kindsOf
+pub vector-numbers : (m q : ℕ) → length (kindsOf (vectorRuns m q)) ≡ vectorSize m q
+unfolding kindsOf
 vector-numbers m q =
     omega (
       arith,
@@ -137,6 +143,11 @@ vector-numbers m q =
       run-numbers ReceivedPart (2 * m) (kindsOf (run BitPrior (m * q) ∷ [])),
       run-numbers BitPrior (m * q) [],
     )
+
+-- and with its owner
+pub owned-numbers : (own m q : ℕ) → length (partKinds (Vector own m q)) ≡ ownedSize own m q
+unfolding runsOf kindsOf
+owned-numbers own m q = omega (arith, run-numbers OwnerNumber own (kindsOf (vectorRuns m q)), vector-numbers m q)
 
 -- The i-th run, and those after it
 pub kinds-step : (rs : List Run) (i : ℕ) → i < length rs

@@ -12,13 +12,13 @@ use Rattle.wire.specs.Writing.{bytesOf}
 use Rattle.wire.specs.Folding.{unfolded}
 use Rattle.wire.proofs.Writing.{bytesOf-short, bytesOf-most}
 use Rattle.wire.proofs.RoundTrip.{unfolded-below, read-ends}
-use Rattle.model.specs.Block.{mostStreams, mostBits, mostVectors, mostEntry, mostReceived, mostPrior}
+use Rattle.model.specs.Block.{mostStreams, mostBits, mostVectors, mostEntry, mostReceived, mostPrior, mostOwner}
 use Rattle.refusals.specs.Table.{between, allowed}
-use Rattle.block.specs.Reading.{weakCount, wholeOf, oneAt, numbersAt, run, kindsOf, matrixRuns, runsOf, vectorKinds, countAt, layoutOf, readRecord, longestRecord}
+use Rattle.block.specs.Reading.{weakCount, ownCount, wholeOf, oneAt, numbersAt, run, kindsOf, matrixRuns, vectorRuns, runsOf, partKinds, vectorKinds, countAt, layoutOf, readRecord, longestRecord}
 use Rattle.block.specs.Contents.{headerKinds, blockOf, recordKinds}
 use Rattle.block.specs.declared.Layout.{Layout}
 use Rattle.refusals.specs.declared.Kind.{Kind}
-use Rattle.refusals.specs.declared.Kind.the-variants.{StreamCount, SymbolWidth, VectorCount, ClipLevel, WeakLevel, NodeShare}
+use Rattle.refusals.specs.declared.Kind.the-variants.{StreamCount, SymbolWidth, VectorCount, ClipLevel, WeakLevel, NodeShare, OwnerNumber}
 use Rattle.refusals.specs.declared.Kind.the-variants.{DiagonalEntry, RightPart, ReceivedPart, BitPrior}
 use Rattle.block.specs.declared.One.the-variants.{Taken}
 use Rattle.block.specs.declared.Read.the-variants.{Ended}
@@ -26,7 +26,7 @@ use Rattle.block.specs.declared.Run.{Run}
 use Rattle.block.specs.declared.Part.the-variants.{Vector}
 use Rattle.block.proofs.Ranges.{between-plain, between-signed, allowed-width}
 use Rattle.block.proofs.Reading.{one-found, numbers-keep}
-use Rattle.block.proofs.Parts.{weak-few, plain-most, width-most}
+use Rattle.block.proofs.Parts.{weak-few, own-few, plain-most, width-most}
 use Rattle.block.proofs.Places.{vectors-count}
 use Rattle.block.proofs.Flat.{accepted-ends}
 use Rattle.block.proofs.Accepted.{accepted-in-range}
@@ -39,6 +39,7 @@ mostBytes VectorCount = 1
 mostBytes ClipLevel = 4
 mostBytes (WeakLevel c) = 4
 mostBytes (NodeShare m) = 4
+mostBytes OwnerNumber = 1
 mostBytes DiagonalEntry = 2
 mostBytes RightPart = 2
 mostBytes ReceivedPart = 3
@@ -60,6 +61,7 @@ kind-bytes VectorCount n e = plain-bytes 1 mostVectors n (omega arith) 1 (omega 
 kind-bytes ClipLevel n e = bytesOf-most n
 kind-bytes (WeakLevel c) n e = bytesOf-most n
 kind-bytes (NodeShare m) n e = bytesOf-most n
+kind-bytes OwnerNumber n e = plain-bytes 1 mostOwner n (omega arith) 1 (omega arith) e
 kind-bytes DiagonalEntry n e = plain-bytes 2 mostEntry n (omega arith) 1 (omega arith) e
 kind-bytes RightPart n e = folded-bytes 2 mostEntry n (omega arith) (omega arith) e
 kind-bytes ReceivedPart n e = folded-bytes 3 mostReceived n (omega arith) (omega arith) e
@@ -102,40 +104,45 @@ most-matrix (suc m) rest =
     let row = most-run DiagonalEntry 1 (run RightPart (2 * m) ∷ below) in
     omega (arith, most-run RightPart (2 * m) below, most-matrix m rest, suc-mul m (suc m), mul-suc m m)
 
-abbrev vectorBytes : ℕ → ℕ → ℕ
-vectorBytes m q = 2 * (m * m) + 3 * (2 * m) + 3 * (m * q)
+abbrev vectorBytes : ℕ → ℕ → ℕ → ℕ
+vectorBytes own m q = own + 2 * (m * m) + 3 * (2 * m) + 3 * (m * q)
 
-most-vector : (m q : ℕ) → mostOf (kindsOf (runsOf (Vector m q))) ≡ vectorBytes m q
+most-vector : (own m q : ℕ) → mostOf (partKinds (Vector own m q)) ≡ vectorBytes own m q
 unfolding runsOf kindsOf mostOf
-most-vector m q =
+most-vector own m q =
     let priors = run BitPrior (m * q) ∷ [] in
     let y = most-run ReceivedPart (2 * m) priors in
-    omega (arith, most-matrix m (run ReceivedPart (2 * m) ∷ priors), most-run BitPrior (m * q) [])
+    omega (
+      arith,
+      most-run OwnerNumber own (vectorRuns m q),
+      most-matrix m (run ReceivedPart (2 * m) ∷ priors),
+      most-run BitPrior (m * q) [],
+    )
 
-most-vectors : (n m q : ℕ) → mostOf (vectorKinds n m q) ≡ n * vectorBytes m q
+most-vectors : (n own m q : ℕ) → mostOf (vectorKinds n own m q) ≡ n * vectorBytes own m q
 unfolding vectorKinds mostOf
-most-vectors zero m q = omega arith
-most-vectors (suc n) m q =
-    let both = most-append (kindsOf (runsOf (Vector m q))) (vectorKinds n m q) in
-    omega (arith, most-vector m q, most-vectors n m q, suc-mul n (vectorBytes m q))
+most-vectors zero own m q = omega arith
+most-vectors (suc n) own m q =
+    let both = most-append (partKinds (Vector own m q)) (vectorKinds n own m q) in
+    omega (arith, most-vector own m q, most-vectors n own m q, suc-mul n (vectorBytes own m q))
 
 most-header : (o : Layout) (m c : ℤ) → mostOf (headerKinds o m c) ≡ 11 + 4 * weakCount o
 unfolding runsOf mostOf kindsOf
 most-header o m c = omega (arith, most-run (WeakLevel c) (weakCount o) (run (NodeShare m) 1 ∷ []))
 
 most-record : (o : Layout) (numbers : List ℤ)
-    → mostOf (recordKinds o numbers) ≡ 11 + 4 * weakCount o + countAt 2 numbers * vectorBytes (countAt 0 numbers) (countAt 1 numbers)
+    → mostOf (recordKinds o numbers) ≡ 11 + 4 * weakCount o + countAt 2 numbers * vectorBytes (ownCount o) (countAt 0 numbers) (countAt 1 numbers)
 unfolding recordKinds
 most-record o numbers =
     let header = headerKinds o (getD numbers 0 (pos 0)) (getD numbers 3 (pos 0)) in
-    let both = most-append header (vectorKinds (countAt 2 numbers) (countAt 0 numbers) (countAt 1 numbers)) in
+    let both = most-append header (vectorKinds (countAt 2 numbers) (ownCount o) (countAt 0 numbers) (countAt 1 numbers)) in
     omega (
       arith,
       most-header o (getD numbers 0 (pos 0)) (getD numbers 3 (pos 0)),
-      most-vectors (countAt 2 numbers) (countAt 0 numbers) (countAt 1 numbers),
+      most-vectors (countAt 2 numbers) (ownCount o) (countAt 0 numbers) (countAt 1 numbers),
     )
 
--- An accepted record is at most 8,211 bytes
+-- An accepted record is at most 8,275 bytes
 pub accepted-size : (bytes : List ℕ) (at : ℕ) → readRecord bytes .read ≡ Ended at → at ≤ longestRecord
 unfolding blockOf
 accepted-size bytes at e =
@@ -144,6 +151,7 @@ accepted-size bytes at e =
     let streams : countAt 0 numbers ≤ mostStreams = ranged .streams in
     let label : countAt 0 numbers * countAt 1 numbers ≤ mostBits = ranged .label in
     let vectors : countAt 2 numbers ≤ mostVectors = omega (arith, ranged .vectors, vectors-count (layoutOf bytes) numbers) in
-    let most : vectorBytes (countAt 0 numbers) (countAt 1 numbers) ≤ 128 = omega (arith, mul-le-mul streams streams) in
+    let most : vectorBytes (ownCount (layoutOf bytes)) (countAt 0 numbers) (countAt 1 numbers) ≤ 129 =
+    omega (arith, mul-le-mul streams streams, own-few (layoutOf bytes)) in
     let size = numbers-size (recordKinds (layoutOf bytes) numbers) bytes 4 at (accepted-ends bytes at e) in
     omega (arith, most-record (layoutOf bytes) numbers, weak-few (layoutOf bytes), mul-le-mul vectors most)

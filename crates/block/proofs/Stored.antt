@@ -7,7 +7,7 @@ use lib.ListN.{length, getD, take}
 use lib.Seq.{getD-take}
 use lib.IntN.{ℤ, pos, natAbs}
 use Rattle.refusals.specs.Table.{allowed}
-use Rattle.block.specs.Reading.{weakCount, headerSize, numbersAt, kindsOf, runsOf, partKinds, partAt, vectorKinds, countAt, mostNumbers}
+use Rattle.block.specs.Reading.{weakCount, ownCount, headerSize, numbersAt, kindsOf, runsOf, partKinds, partAt, vectorKinds, countAt, mostNumbers}
 use Rattle.block.specs.Reading.{sizeStage, limitStage, vectorStage, stages, stagesAt, got, into, StreamsStored, SizesStored}
 use Rattle.refusals.specs.declared.Kind.{Kind}
 use Rattle.refusals.specs.declared.Kind.the-variants.{StreamCount, SymbolWidth, WeakLevel, NodeShare}
@@ -39,13 +39,13 @@ module _ (o : Layout) (bytes : List ℕ) (at : ℕ) (list list′ : List ℤ) wh
     }
 
     pub first-ended : into 0 (stagesAt (stages o) [] bytes at) list
-        ≡ into 1 (stagesAt (sizeStage ∷ limitStage o ∷ vectorStage ∷ []) (take 1 list′) bytes next) list′
+        ≡ into 1 (stagesAt (sizeStage ∷ limitStage o ∷ vectorStage o ∷ []) (take 1 list′) bytes next) list′
     unfolding kindsOf runsOf
-    first-ended = stage-ended (λ known. partKinds First) (sizeStage ∷ limitStage o ∷ vectorStage ∷ []) bytes at 0 list list′ next fits e
+    first-ended = stage-ended (λ known. partKinds First) (sizeStage ∷ limitStage o ∷ vectorStage o ∷ []) bytes at 0 list list′ next fits e
 
   pub first-refused : (r : Refusal) → got (Refused r) list′ ≡ into 0 (partAt First bytes at) list
       → into 0 (stagesAt (stages o) [] bytes at) list ≡ got (Refused r) list′
-  first-refused r e = stage-refused (λ known. partKinds First) (sizeStage ∷ limitStage o ∷ vectorStage ∷ []) bytes at 0 list list′ r e
+  first-refused r e = stage-refused (λ known. partKinds First) (sizeStage ∷ limitStage o ∷ vectorStage o ∷ []) bytes at 0 list list′ r e
 
   -- Q, N and C, told by M
   abbrev sizes : List Kind
@@ -75,15 +75,15 @@ module _ (o : Layout) (bytes : List ℕ) (at : ℕ) (list list′ : List ℤ) wh
       vectors = stored-allowed sizes bytes at next 1 list list′ sizes-fit e 1 StreamCount (omega arith);
     }
 
-    pub sizes-ended : into 1 (stagesAt (sizeStage ∷ limitStage o ∷ vectorStage ∷ []) (take 1 list) bytes at) list
-        ≡ into 4 (stagesAt (limitStage o ∷ vectorStage ∷ []) (take 4 list′) bytes next) list′
+    pub sizes-ended : into 1 (stagesAt (sizeStage ∷ limitStage o ∷ vectorStage o ∷ []) (take 1 list) bytes at) list
+        ≡ into 4 (stagesAt (limitStage o ∷ vectorStage o ∷ []) (take 4 list′) bytes next) list′
     unfolding kindsOf runsOf
     sizes-ended =
-        stage-ended sizeStage (limitStage o ∷ vectorStage ∷ []) bytes at 1 list list′ next sizes-fit (rw told-sizes at e)
+        stage-ended sizeStage (limitStage o ∷ vectorStage o ∷ []) bytes at 1 list list′ next sizes-fit (rw told-sizes at e)
 
   pub sizes-refused : (r : Refusal) → got (Refused r) list′ ≡ into 1 (numbersAt sizes bytes at) list
-      → into 1 (stagesAt (sizeStage ∷ limitStage o ∷ vectorStage ∷ []) (take 1 list) bytes at) list ≡ got (Refused r) list′
-  sizes-refused r e = stage-refused sizeStage (limitStage o ∷ vectorStage ∷ []) bytes at 1 list list′ r (rw told-sizes at e)
+      → into 1 (stagesAt (sizeStage ∷ limitStage o ∷ vectorStage o ∷ []) (take 1 list) bytes at) list ≡ got (Refused r) list′
+  sizes-refused r e = stage-refused sizeStage (limitStage o ∷ vectorStage o ∷ []) bytes at 1 list list′ r (rw told-sizes at e)
 
   -- W and D, told by M and C
   abbrev limits : List Kind
@@ -102,17 +102,17 @@ module _ (o : Layout) (bytes : List ℕ) (at : ℕ) (list list′ : List ℤ) wh
     count-stays i h =
         ap natAbs (getD-take (headerSize o) list′ i (pos 0) (omega arith) ∙ stored-before limits bytes at next 4 list list′ limits-fit e i h)
 
-    pub limits-ended : into 4 (stagesAt (limitStage o ∷ vectorStage ∷ []) (take 4 list) bytes at) list
-        ≡ into (headerSize o) (numbersAt (vectorKinds (countAt 2 list) (countAt 0 list) (countAt 1 list)) bytes next) list′
+    pub limits-ended : into 4 (stagesAt (limitStage o ∷ vectorStage o ∷ []) (take 4 list) bytes at) list
+        ≡ into (headerSize o) (numbersAt (vectorKinds (countAt 2 list) (ownCount o) (countAt 0 list) (countAt 1 list)) bytes next) list′
     limits-ended =
         let size : 4 + length (limitStage o (take 4 list)) ≡ headerSize o =
         ap (λ (ks : List Kind). 4 + length ks) (sym told-limits) ∙ limits-numbers o (getD list 0 (pos 0)) (getD list 3 (pos 0)) in
-        stage-ended (limitStage o) (vectorStage ∷ []) bytes at 4 list list′ next
+        stage-ended (limitStage o) (vectorStage o ∷ []) bytes at 4 list list′ next
         (rw told-limits at limits-fit) (rw told-limits at e)
-        ∙ ap (λ (n : ℕ). into n (stagesAt (vectorStage ∷ []) (take n list′) bytes next) list′) size
-        ∙ ap (λ p. into (headerSize o) p list′) (stage-last vectorStage (take (headerSize o) list′) bytes next)
+        ∙ ap (λ (n : ℕ). into n (stagesAt (vectorStage o ∷ []) (take n list′) bytes next) list′) size
+        ∙ ap (λ p. into (headerSize o) p list′) (stage-last (vectorStage o) (take (headerSize o) list′) bytes next)
         ∙ (rw (count-stays 0 (omega arith), count-stays 1 (omega arith), count-stays 2 (omega arith)))
 
   pub limits-refused : (r : Refusal) → got (Refused r) list′ ≡ into 4 (numbersAt limits bytes at) list
-      → into 4 (stagesAt (limitStage o ∷ vectorStage ∷ []) (take 4 list) bytes at) list ≡ got (Refused r) list′
-  limits-refused r e = stage-refused (limitStage o) (vectorStage ∷ []) bytes at 4 list list′ r (rw told-limits at e)
+      → into 4 (stagesAt (limitStage o ∷ vectorStage o ∷ []) (take 4 list) bytes at) list ≡ got (Refused r) list′
+  limits-refused r e = stage-refused (limitStage o) (vectorStage o ∷ []) bytes at 4 list list′ r (rw told-limits at e)

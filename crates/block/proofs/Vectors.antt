@@ -14,12 +14,11 @@ use lib.Seq.{getD-drop, drop-drop}
 use lib.IntN.{ℤ, pos}
 use Rattle.model.specs.Block.{Every, Within, BothWithin, RowsInRange, VectorInRange, mostEntry, mostReceived, mostPrior}
 use Rattle.refusals.specs.Table.{allowed}
-use Rattle.block.specs.Reading.{run, kindsOf, matrixRuns, runsOf, vectorSize}
+use Rattle.block.specs.Reading.{run, kindsOf, matrixRuns, vectorSize, kindsOfVector}
 use Rattle.block.specs.Contents.{complexes, rowsFrom, rowsOf}
 use Rattle.refusals.specs.declared.Kind.{Kind}
 use Rattle.refusals.specs.declared.Kind.the-variants.{DiagonalEntry, RightPart, ReceivedPart, BitPrior}
 use Rattle.block.specs.declared.Run.{Run}
-use Rattle.block.specs.declared.Part.the-variants.{Vector}
 use Rattle.block.proofs.Ranges.{Plain, between-plain, between-signed}
 use Rattle.block.proofs.Runs.{vector-numbers}
 use Rattle.block.proofs.Parts.{AllAllowed, allowed-at, allowed-length, plain-most}
@@ -34,7 +33,7 @@ allowed-parts (k ∷ ks) ls (z ∷ zs) a = let parts = allowed-parts ks ls zs (a
 
 -- A run in front, and what is behind it
 module _ (k : Kind) (n : ℕ) (rs : List Run) (zs : List ℤ) (a : AllAllowed (kindsOf (run k n ∷ rs)) zs) where
-  in-front : (i : ℕ) → i < n → allowed k (getD zs i (pos 0)) ≡ true
+  pub in-front : (i : ℕ) → i < n → allowed k (getD zs i (pos 0)) ≡ true
   unfolding kindsOf
   in-front i h =
       let many = length-replicate n k in
@@ -43,7 +42,7 @@ module _ (k : Kind) (n : ℕ) (rs : List Run) (zs : List ℤ) (a : AllAllowed (k
       rw (List·getD-append (replicate n k) (kindsOf rs) k i some, getD-replicate n i k k h)
       at (allowed-at (replicate n k ++ kindsOf rs) zs a i k all)
 
-  behind : AllAllowed (kindsOf rs) (drop n zs)
+  pub behind : AllAllowed (kindsOf rs) (drop n zs)
   unfolding kindsOf
   behind = rw length-replicate at (allowed-parts (replicate n k) (kindsOf rs) zs a .1)
 
@@ -156,9 +155,8 @@ pub record Placed (m q : ℕ) (zs : List ℤ) : Type 0 where
   pub priors : (i : ℕ) → i < m * q → Within mostPrior (getD zs (m * m + 2 * m + i) (pos 0))
 
 -- A vector
-module _ (m q : ℕ) (zs : List ℤ) (a : AllAllowed (kindsOf (runsOf (Vector m q))) zs) where
+module _ (m q : ℕ) (zs : List ℤ) (a : AllAllowed (kindsOfVector m q) zs) where
   behind-matrix : AllAllowed (kindsOf (run ReceivedPart (2 * m) ∷ run BitPrior (m * q) ∷ [])) (drop (m * m) zs)
-  unfolding runsOf
   behind-matrix = matrix-behind (run ReceivedPart (2 * m) ∷ run BitPrior (m * q) ∷ []) m zs a
 
   received-within : FirstWithin mostReceived (2 * m) (drop (m * m) zs)
@@ -173,9 +171,8 @@ module _ (m q : ℕ) (zs : List ℤ) (a : AllAllowed (kindsOf (runsOf (Vector m 
       (rw drop-drop at (behind ReceivedPart (2 * m) (run BitPrior (m * q) ∷ []) (drop (m * m) zs) behind-matrix)) i h)
 
   pub vector-placed : Placed m q zs
-  unfolding runsOf
   vector-placed = record {
-    many = allowed-length (kindsOf (runsOf (Vector m q))) zs a ∙ vector-numbers m q;
+    many = allowed-length (kindsOfVector m q) zs a ∙ vector-numbers m q;
     entries = entries-within (run ReceivedPart (2 * m) ∷ run BitPrior (m * q) ∷ []) m zs a;
     diagonal = diagonal-plain (run ReceivedPart (2 * m) ∷ run BitPrior (m * q) ∷ []) m zs a;
     received = λ i h. rw getD-drop at (received-within i h);
@@ -183,7 +180,7 @@ module _ (m q : ℕ) (zs : List ℤ) (a : AllAllowed (kindsOf (runsOf (Vector m 
   }
 
   pub vector-ranged : VectorInRange m q (rowsOf m q zs)
-  unfolding runsOf rowsOf
+  unfolding rowsOf
   vector-ranged = record {
     streams = rows-count m q zs;
     ranged =

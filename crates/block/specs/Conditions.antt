@@ -1,4 +1,4 @@
--- Demand 1, from document 01, "Where a record is turned back", and Points 1 and 4 of document 02: the table's conditions, row by row.
+-- Demand 1, from document 01, "Where a record is turned back", and Points 1, 4 and 7 of document 02: the table's conditions, row by row.
 use Prim.Native.Nat.{ℕ, _+_, _<_}
 use mathlib.Core.Path.{_≡_}
 use mathlib.Core.Bool.{true, false, cond}
@@ -12,9 +12,9 @@ use Rattle.wire.specs.declared.Number.the-variants.{Value}
 use Rattle.refusals.specs.Table.{refusalNumber, oneOf, allowed}
 use Rattle.block.specs.Reading.{opening, wholeOf, numbersAt, startsWith, stages}
 use Rattle.refusals.specs.declared.Kind.{Kind}
-use Rattle.refusals.specs.declared.Kind.the-variants.{StreamCount, SymbolWidth, VectorCount, ClipLevel, WeakLevel, NodeShare, DiagonalEntry, RightPart, ReceivedPart, BitPrior}
+use Rattle.refusals.specs.declared.Kind.the-variants.{StreamCount, SymbolWidth, VectorCount, ClipLevel, WeakLevel, NodeShare, OwnerNumber, DiagonalEntry, RightPart, ReceivedPart, BitPrior}
 use Rattle.refusals.specs.declared.Refusal.{Refusal}
-use Rattle.refusals.specs.declared.Refusal.the-variants.{Opening, Ends, Malformed, Streams, Width, Vectors, Clip, Share, Diagonal, Entry, Received, Prior, Trailing, Buffer, Crowded, Weak}
+use Rattle.refusals.specs.declared.Refusal.the-variants.{Opening, Ends, Malformed, Streams, Width, Vectors, Clip, Share, Diagonal, Entry, Received, Prior, Trailing, Buffer, Crowded, Weak, Owner}
 use Rattle.block.specs.declared.Read.the-variants.{Ended}
 use Rattle.block.specs.declared.Layout.{Layout}
 
@@ -86,6 +86,8 @@ TurnedBack bytes Clip = OutOfRange bytes ClipLevel
 TurnedBack bytes Weak = (c : ℤ) × OutOfRange bytes (WeakLevel c)
 -- "outside range", which begins at M
 TurnedBack bytes Share = (m : ℤ) × OutOfRange bytes (NodeShare m)
+-- "outside 1 to 4", document 02's 17, "checked as it is read"
+TurnedBack bytes Owner = OutOfRange bytes OwnerNumber
 -- "outside range"
 TurnedBack bytes Diagonal = OutOfRange bytes DiagonalEntry
 TurnedBack bytes Entry = OutOfRange bytes RightPart

@@ -7,10 +7,11 @@ use Rattle.model.specs.Constellation.{Complex}
 use Rattle.model.specs.Metric.{Row}
 use Rattle.model.specs.Soft.{upFrom}
 use Rattle.model.specs.Block.{Block}
-use Rattle.block.specs.Reading.{weakCount, weakPlace, sharePlace, headerSize, partKinds, vectorKinds, vectorSize, countAt}
+use Rattle.block.specs.Reading.{weakCount, ownCount, weakPlace, sharePlace, headerSize, partKinds, vectorKinds, vectorSize, ownedSize, countAt}
 use Rattle.refusals.specs.declared.Kind.{Kind}
 use Rattle.block.specs.declared.Part.the-variants.{First, Sizes, Limits}
 use Rattle.block.specs.declared.Layout.{Layout}
+use Rattle.block.specs.declared.Layout.the-variants.{Base, Weakened, Owned}
 
 -- The complex number at a place: "real and imaginary", side by side
 abbrev pub complexAt : List ℤ → ℕ → Complex
@@ -40,16 +41,26 @@ rowsFrom (suc later) q r y priors = rowFrom later q r y priors ∷ rowsFrom late
 unfoldable pub rowsOf : ℕ → ℕ → List ℤ → List Row
 rowsOf m q numbers = rowsFrom m q numbers (drop (m * m) numbers) (drop (m * m + 2 * m) numbers)
 
--- The numbers of vector k, from 0: behind the header and the vectors before it
+-- Where vector k begins, from 0, with its owner if the layout has owners: behind the header and the vectors before it
+abbrev pub vectorStart : Layout → List ℤ → ℕ → ℕ
+vectorStart layout numbers k = headerSize layout + k * ownedSize (ownCount layout) (countAt 0 numbers) (countAt 1 numbers)
+
+-- Its owner: "an owner number 1 to 4 before each vector", and of an older record "one owner for all vectors"
+abbrev pub ownerAt : Layout → List ℤ → ℕ → ℕ
+ownerAt Base numbers k = 1
+ownerAt Weakened numbers k = 1
+ownerAt Owned numbers k = countAt (vectorStart Owned numbers k) numbers
+
+-- Its numbers, behind its owner's
 abbrev pub vectorNumbers : Layout → List ℤ → ℕ → List ℤ
 vectorNumbers layout numbers k =
-    let size = vectorSize (countAt 0 numbers) (countAt 1 numbers) in take size (drop (headerSize layout + k * size) numbers)
+    take (vectorSize (countAt 0 numbers) (countAt 1 numbers)) (drop (vectorStart layout numbers k + ownCount layout) numbers)
 
 -- Vector k, from 0
 abbrev pub vectorRows : Layout → List ℤ → ℕ → List Row
 vectorRows layout numbers k = rowsOf (countAt 0 numbers) (countAt 1 numbers) (vectorNumbers layout numbers k)
 
--- A record: "M, Q, N .., C .., D ... Then for each vector" its rows; W "directly after C", or C for it
+-- A record: "M, Q, N .., C .., D ... Then for each vector" its owner and its rows; W "directly after C", or C for it
 unfoldable pub blockOf : Layout → List ℤ → Block
 blockOf layout numbers = record {
   streams = countAt 0 numbers;
@@ -57,6 +68,7 @@ blockOf layout numbers = record {
   clip = countAt 3 numbers;
   weak = countAt (weakPlace layout) numbers;
   share = countAt (sharePlace layout) numbers;
+  owners = map (ownerAt layout numbers) (upFrom 0 (countAt 2 numbers));
   vectors = map (vectorRows layout numbers) (upFrom 0 (countAt 2 numbers));
 }
 
@@ -68,4 +80,4 @@ headerKinds layout m c = partKinds First ++ partKinds (Sizes m) ++ partKinds (Li
 unfoldable pub recordKinds : Layout → List ℤ → List Kind
 recordKinds layout numbers =
     headerKinds layout (getD numbers 0 (pos 0)) (getD numbers 3 (pos 0))
-    ++ vectorKinds (countAt 2 numbers) (countAt 0 numbers) (countAt 1 numbers)
+    ++ vectorKinds (countAt 2 numbers) (ownCount layout) (countAt 0 numbers) (countAt 1 numbers)

@@ -15,7 +15,7 @@ use Rattle.wire.specs.declared.Number.{Number}
 use Rattle.wire.specs.declared.Number.the-variants.{Value, Short, Malformed}
 use Rattle.refusals.specs.Table.{allowed, isFolded, refusalOf}
 use Rattle.refusals.specs.declared.Kind.{Kind}
-use Rattle.refusals.specs.declared.Kind.the-variants.{StreamCount, SymbolWidth, VectorCount, ClipLevel, WeakLevel, NodeShare, DiagonalEntry, RightPart, ReceivedPart, BitPrior}
+use Rattle.refusals.specs.declared.Kind.the-variants.{StreamCount, SymbolWidth, VectorCount, ClipLevel, WeakLevel, NodeShare, OwnerNumber, DiagonalEntry, RightPart, ReceivedPart, BitPrior}
 use Rattle.refusals.specs.declared.Refusal.the-variants.{Opening, Ends, Malformed as NoNumber, Trailing}
 use Rattle.block.specs.declared.One.{One}
 use Rattle.block.specs.declared.One.the-variants.{Taken, Turned}
@@ -25,17 +25,25 @@ use Rattle.block.specs.declared.Run.{Run}
 use Rattle.block.specs.declared.Part.{Part}
 use Rattle.block.specs.declared.Part.the-variants.{First, Sizes, Limits, Vector}
 use Rattle.block.specs.declared.Layout.{Layout}
-use Rattle.block.specs.declared.Layout.the-variants.{Base, Weakened}
+use Rattle.block.specs.declared.Layout.the-variants.{Base, Weakened, Owned}
 
--- The openings: document 01's, and document 02's, with which a record carries W
+-- The openings: document 01's, and document 02's two: with the first a record carries W, with the second W and owners
 abbrev pub opening : Layout → List ℕ
 opening Base = 0x43 ∷ 0x42 ∷ 0x52 ∷ 0x31 ∷ []
 opening Weakened = 0x43 ∷ 0x42 ∷ 0x52 ∷ 0x32 ∷ []
+opening Owned = 0x43 ∷ 0x42 ∷ 0x52 ∷ 0x33 ∷ []
 
 -- How many numbers W stand "directly after C"
 abbrev pub weakCount : Layout → ℕ
 weakCount Base = 0
 weakCount Weakened = 1
+weakCount Owned = 1
+
+-- How many owner numbers stand "before each vector"
+abbrev pub ownCount : Layout → ℕ
+ownCount Base = 0
+ownCount Weakened = 0
+ownCount Owned = 1
 
 -- Where W stands among a record's numbers: behind C, or where "an older record has W = C", in C's own place
 abbrev pub weakPlace : Layout → ℕ
@@ -107,20 +115,24 @@ unfoldable pub matrixRuns : ℕ → List Run
 matrixRuns zero = []
 matrixRuns (suc later) = run DiagonalEntry 1 ∷ run RightPart (2 * later) ∷ matrixRuns later
 
--- A part of a record: M; Q, N and C, of which Q is ranged by M; so many numbers W, ranged by C, and D, ranged by M; "then for each vector:
--- R .. y, row 1 first, as folded real, imaginary .. M × Q folded priors"
+-- "R .. y, row 1 first, as folded real, imaginary .. M × Q folded priors"
+abbrev pub vectorRuns : ℕ → ℕ → List Run
+vectorRuns m q = matrixRuns m ++ run ReceivedPart (2 * m) ∷ run BitPrior (m * q) ∷ []
+
+-- A part of a record: M; Q, N and C, of which Q is ranged by M; so many numbers W, ranged by C, and D, ranged by M; "then for each vector"
+-- so many owner numbers and, behind them, its own
 unfoldable pub runsOf : Part → List Run
 runsOf First = run StreamCount 1 ∷ []
 runsOf (Sizes m) = run (SymbolWidth m) 1 ∷ run VectorCount 1 ∷ run ClipLevel 1 ∷ []
 runsOf (Limits n m c) = run (WeakLevel c) n ∷ run (NodeShare m) 1 ∷ []
-runsOf (Vector m q) = matrixRuns m ++ run ReceivedPart (2 * m) ∷ run BitPrior (m * q) ∷ []
+runsOf (Vector n m q) = run OwnerNumber n ∷ vectorRuns m q
 
 -- A vector's M and Q, and the bits of its label, are within their ranges
 abbrev pub Small : Part → Type 0
 Small First = Unit {0}
 Small (Sizes m) = Unit {0}
 Small (Limits n m c) = Unit {0}
-Small (Vector m q) = (m ≤ mostStreams) × (q ≤ mostWidth) × (m * q ≤ mostBits)
+Small (Vector n m q) = (m ≤ mostStreams) × (q ≤ mostWidth) × (m * q ≤ mostBits)
 
 abbrev pub partKinds : Part → List Kind
 partKinds p = kindsOf (runsOf p)
@@ -128,42 +140,46 @@ partKinds p = kindsOf (runsOf p)
 abbrev pub partAt : Part → List ℕ → ℕ → Parse
 partAt p bytes at = numbersAt (partKinds p) bytes at
 
--- How many numbers a record has at most: M, Q, N, C, W and D, and 48 for each of 64 vectors
+-- How many numbers a record has at most: M, Q, N, C, W and D, and 49 for each of 64 vectors
 abbrev pub mostNumbers : ℕ
-mostNumbers = 3078
+mostNumbers = 3142
 
 -- How many bytes a record has at most: four streams of 6 bits, 64 vectors, each number in its most groups
 abbrev pub longestRecord : ℕ
-longestRecord = 8211
+longestRecord = 8275
 
--- How many numbers a vector has
+-- How many numbers a vector has, without its owner's
 abbrev pub vectorSize : ℕ → ℕ → ℕ
 vectorSize m q = m * m + 2 * m + m * q
 
--- The kinds of a vector's numbers
-abbrev pub kindsOfVector : ℕ → ℕ → List Kind
-kindsOfVector m q = partKinds (Vector m q)
+-- and with so many owner numbers
+abbrev pub ownedSize : ℕ → ℕ → ℕ → ℕ
+ownedSize own m q = own + vectorSize m q
 
--- The kinds of the numbers of n vectors
-unfoldable pub vectorKinds : ℕ → ℕ → ℕ → List Kind
-vectorKinds zero m q = []
-vectorKinds (suc n) m q = kindsOfVector m q ++ vectorKinds n m q
+-- The kinds of a vector's numbers, without its owner's
+abbrev pub kindsOfVector : ℕ → ℕ → List Kind
+kindsOfVector m q = kindsOf (vectorRuns m q)
+
+-- The kinds of the numbers of n vectors, each with so many owner numbers before it
+unfoldable pub vectorKinds : ℕ → ℕ → ℕ → ℕ → List Kind
+vectorKinds zero own m q = []
+vectorKinds (suc n) own m q = partKinds (Vector own m q) ++ vectorKinds n own m q
 
 unfoldable pub startsWith : List ℕ → List ℕ → Bool
 startsWith [] l = true
 startsWith (x ∷ p) [] = false
 startsWith (x ∷ p) (y ∷ l) = eqb x y && startsWith p l
 
--- The layout of a record, by its opening: the newer one where it starts with "43 42 52 32", else the older, if it starts with "43 42 52 31"
+-- The layout of a record, by its opening: where it starts with neither "43 42 52 33" nor "43 42 52 32" it is document 01's, if any
 unfoldable pub layoutOf : List ℕ → Layout
-layoutOf bytes = cond (startsWith (opening Weakened) bytes) Weakened Base
+layoutOf bytes = cond (startsWith (opening Owned) bytes) Owned (cond (startsWith (opening Weakened) bytes) Weakened Base)
 
 -- A record's i-th number, where it is a count
 abbrev pub countAt : ℕ → List ℤ → ℕ
 countAt i numbers = natAbs (getD numbers i (pos 0))
 
 -- A record's numbers come in stages, the kinds of each of which the numbers before it tell: M; Q, N and C; W, if the layout has it, and D;
--- then N vectors
+-- then N vectors, each behind its owner, if the layout has owners
 abbrev pub streamStage : List ℤ → List Kind
 streamStage known = partKinds First
 
@@ -173,11 +189,11 @@ sizeStage known = partKinds (Sizes (getD known 0 (pos 0)))
 abbrev pub limitStage : Layout → List ℤ → List Kind
 limitStage layout known = partKinds (Limits (weakCount layout) (getD known 0 (pos 0)) (getD known 3 (pos 0)))
 
-abbrev pub vectorStage : List ℤ → List Kind
-vectorStage known = vectorKinds (countAt 2 known) (countAt 0 known) (countAt 1 known)
+abbrev pub vectorStage : Layout → List ℤ → List Kind
+vectorStage layout known = vectorKinds (countAt 2 known) (ownCount layout) (countAt 0 known) (countAt 1 known)
 
 abbrev pub stages : Layout → List (List ℤ → List Kind)
-stages layout = streamStage ∷ sizeStage ∷ limitStage layout ∷ vectorStage ∷ []
+stages layout = streamStage ∷ sizeStage ∷ limitStage layout ∷ vectorStage layout ∷ []
 
 -- The numbers of some stages, behind those that are known
 unfoldable pub stagesAt : List (List ℤ → List Kind) → List ℤ → List ℕ → ℕ → Parse

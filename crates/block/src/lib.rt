@@ -7,22 +7,24 @@ pub use order::run_count;
 use refusals::Kind;
 use refusals::Refusal;
 ghost use mathlib.Core.Path.{_≡_};
-ghost use Prim.Native.Nat.{_<_, _≤_};
+ghost use Prim.Native.Nat.{_+_, _*_, _<_, _≤_};
 ghost use lib.IntN.{natAbs};
 ghost use lib.ListN.{length};
-ghost use Rattle.model.specs.Block.{mostStreams, mostWidth};
-ghost use Rattle.block.specs.Reading.{countAt, headerSize, opening, sharePlace, vectorSize, weakCount, weakPlace};
+ghost use Rattle.model.specs.Block.{mostStreams, mostVectors, mostWidth};
+ghost use Rattle.block.specs.Reading.{countAt, headerSize, opening, ownCount, ownedSize, sharePlace, vectorSize, weakCount, weakPlace};
 
-// How many whole numbers a record has at most: 6 and 48 for each of 64 vectors.
-pub const MOST_NUMBERS: usize = 3078;
+// How many whole numbers a record has at most: 6 and 49 for each of 64 vectors.
+pub const MOST_NUMBERS: usize = 3142;
 
 // How many bytes it has at most.
-pub const MOST_BYTES: usize = 8211;
+pub const MOST_BYTES: usize = 8275;
 
-// The layouts of a record, which its opening tells: document 01's, and document 02's, in which W follows C.
+// The layouts of a record, which its opening tells: document 01's; document 02's, in which W follows C; and the one in which, besides, an owner's
+// number stands before each vector.
 pub enum Layout {
     Base,
     Weakened,
+    Owned,
 }
 
 // A number taken and the place after it, or why the record is turned back there.
@@ -43,12 +45,12 @@ pub struct Run {
     pub count: usize,
 }
 
-// The parts of a record: M; Q, N and C, with M; so many numbers W, and D, with M and C; a vector with M and Q.
+// The parts of a record: M; Q, N and C, with M; so many numbers W, and D, with M and C; so many owner numbers, and a vector, with M and Q.
 pub enum Part {
     First,
     Sizes(i32),
     Limits(usize, i32, i32),
-    Vector(usize, usize),
+    Vector(usize, usize, usize),
 }
 
 // The four bytes that a record of a layout opens with.
@@ -58,6 +60,7 @@ pub fn opening(layout: Layout) -> [u8; 4]
     match layout {
         Layout::Base => [0x43, 0x42, 0x52, 0x31],
         Layout::Weakened => [0x43, 0x42, 0x52, 0x32],
+        Layout::Owned => [0x43, 0x42, 0x52, 0x33],
     }
 }
 
@@ -68,6 +71,18 @@ pub fn weak_count(layout: Layout) -> usize
     match layout {
         Layout::Base => 0,
         Layout::Weakened => 1,
+        Layout::Owned => 1,
+    }
+}
+
+// How many owner numbers stand before each of its vectors.
+pub fn own_count(layout: Layout) -> usize
+    ensures { λ r. ⌜ r ≡ ownCount layout ⌝ }
+{
+    match layout {
+        Layout::Base => 0,
+        Layout::Weakened => 0,
+        Layout::Owned => 1,
     }
 }
 
@@ -107,10 +122,18 @@ pub fn count_at(numbers: &[i32], i: usize) -> u32
     count_of(numbers[i]) as u32
 }
 
-// How many numbers a vector has.
+// How many numbers a vector has, without its owner's.
 pub fn vector_size(m: usize, q: usize) -> usize
     requires { ⌜ (m ≤ mostStreams) × (q ≤ mostWidth) ⌝ }
     ensures { λ r. ⌜ r ≡ vectorSize m q ⌝ }
 {
     m * m + 2 * m + m * q
+}
+
+// Where vector k of a layout begins, from 0, with its owner's number if there is one. Where N vectors end, vector N would begin.
+pub fn vector_start(layout: Layout, m: usize, q: usize, k: usize) -> usize
+    requires { ⌜ (m ≤ mostStreams) × (q ≤ mostWidth) × (k ≤ mostVectors) ⌝ }
+    ensures { λ r. ⌜ r ≡ headerSize layout + k * ownedSize (ownCount layout) m q ⌝ }
+{
+    header_size(layout) + k * (own_count(layout) + vector_size(m, q))
 }

@@ -2,6 +2,7 @@
 use super::Part;
 use super::Run;
 use refusals::Kind;
+ghost use Rattle.block.specs.Reading.{vectorRuns};
 ghost use mathlib.Core.Path.{_≡_};
 ghost use Prim.Native.Nat.{_+_, _*_, _<_};
 ghost use lib.ListN.{length, getD};
@@ -45,10 +46,10 @@ fn limit_run(n: usize, m: i32, c: i32, i: usize) -> Run
     }
 }
 
-// The i-th run of a vector: two for each row of R, then y, then the priors.
+// The i-th run of a vector behind its owner: two for each row of R, then y, then the priors.
 fn vector_run(m: usize, q: usize, i: usize) -> Run
-    requires { ⌜ Small (Part.Vector m q) × (i < 2 * m + 2) ⌝ }
-    ensures { λ r. ⌜ r ≡ getD (runsOf (Part.Vector m q)) i noRun ⌝ }
+    requires { ⌜ Small (Part.Vector 0 m q) × (i < 2 * m + 2) ⌝ }
+    ensures { λ r. ⌜ r ≡ getD (vectorRuns m q) i noRun ⌝ }
 {
     if i < 2 * m {
         if i % 2 == 0 {
@@ -74,6 +75,20 @@ fn vector_run(m: usize, q: usize, i: usize) -> Run
     }
 }
 
+// The i-th run of n owner numbers, which may be none, and a vector.
+fn owned_run(n: usize, m: usize, q: usize, i: usize) -> Run
+    requires { ⌜ Small (Part.Vector n m q) × (i < 2 * m + 3) ⌝ }
+    ensures { λ r. ⌜ r ≡ getD (runsOf (Part.Vector n m q)) i noRun ⌝ }
+{
+    if i == 0 {
+        return Run {
+            kind: Kind::OwnerNumber,
+            count: n,
+        };
+    }
+    vector_run(m, q, i - 1)
+}
+
 // How many runs a part has.
 pub fn run_count(part: Part) -> usize
     requires { ⌜ Small part ⌝ }
@@ -83,7 +98,7 @@ pub fn run_count(part: Part) -> usize
         Part::First => 1,
         Part::Sizes(_) => 3,
         Part::Limits(_, _, _) => 2,
-        Part::Vector(m, _) => 2 * m + 2,
+        Part::Vector(_, m, _) => 2 * m + 3,
     }
 }
 
@@ -99,6 +114,6 @@ pub fn run_at(part: Part, i: usize) -> Run
         },
         Part::Sizes(m) => size_run(m, i),
         Part::Limits(n, m, c) => limit_run(n, m, c, i),
-        Part::Vector(m, q) => vector_run(m, q, i),
+        Part::Vector(n, m, q) => owned_run(n, m, q, i),
     }
 }

@@ -1,6 +1,6 @@
 -- The user's demands, of every record and every buffer: a call refuses exactly under the table's conditions, and the bytes of a reply say
--- answers that meet demands 2 and 3. The theorem to read is `demands`.
-use Prim.Native.Nat.{ℕ, zero, suc, _+_, _-_, _≤_, _<_}
+-- answers that meet demands 2 and 3, the third of each owner's vectors. The theorem to read is `demands`.
+use Prim.Native.Nat.{ℕ, zero, suc, _+_, _≤_, _<_}
 use mathlib.Core.Path.{_≡_, refl, sym, _∙_, ap, ap₂}
 use mathlib.Core.Bool.{Bool, true, false, cond}
 use mathlib.Core.Logic.{_↔_, _⊎_, inl, inr}
@@ -11,16 +11,17 @@ use lib.Dec.{ltb}
 use lib.ListN.{length, getD, take, drop}
 use lib.IntN.{ℤ, pos, negsuc, negℤ}
 use Rattle.model.specs.Metric.{Row}
-use Rattle.model.specs.Block.{Block, vectorOf, Answer, answers}
-use Rattle.model.specs.Demand.{Demand2, Demand3, ResultsFrom}
-use Rattle.model.proofs.Demand.{demand3 as answers-meet}
-use Rattle.model.proofs.Bounds.{shaped}
+use Rattle.model.specs.Block.{Block, vectorOf, Answer, InRange}
+use Rattle.model.specs.Demand.{Demand2, ResultsFrom}
+use Rattle.owners.specs.Owners.{ofOwner, alone, sharedAnswers, SharedDemand3}
+use Rattle.owners.proofs.Demand.{shared-demand3}
+use Rattle.owners.proofs.Isolation.{rank, own-at, own-inside}
 use Rattle.block.specs.Reading.{layoutOf, readRecord, readWhole}
 use Rattle.block.specs.Contents.{blockOf}
 use Rattle.block.specs.Conditions.{Whole}
 use Rattle.block.specs.declared.Layout.{Layout}
 use Rattle.refusals.specs.declared.Refusal.{Refusal}
-use Rattle.refusals.specs.declared.Refusal.the-variants.{Opening, Ends, Malformed, Streams, Width, Vectors, Clip, Share, Diagonal, Entry, Received, Prior, Trailing, Buffer, Crowded, Weak}
+use Rattle.refusals.specs.declared.Refusal.the-variants.{Opening, Ends, Malformed, Streams, Width, Vectors, Clip, Share, Diagonal, Entry, Received, Prior, Trailing, Buffer, Crowded, Weak, Owner}
 use Rattle.block.specs.declared.Read.{Read}
 use Rattle.block.specs.declared.Read.the-variants.{Ended, Refused}
 use Rattle.refusals.proofs.Fillings.{not-both}
@@ -29,7 +30,7 @@ use Rattle.replies.specs.Reply.{replyOf, replyRoom}
 use Rattle.refusals.specs.Filling.{Filling, refused, filled, returned, bufferAfter}
 use Rattle.refusals.specs.Table.{refusalNumber}
 use Rattle.detector.specs.Outcome.{byRoom, byReading, outcome}
-use Rattle.detector.specs.Demand.{Condition, Accepted, nthAnswer, EachComplete, Met}
+use Rattle.detector.specs.Demand.{Condition, Accepted, noAnswer, nthAnswer, EachComplete, Met}
 use Rattle.detector.proofs.Outcomes.{room-short}
 use Rattle.replies.proofs.Replies.{reply-room}
 use Rattle.replies.proofs.ReadBack.{read-back}
@@ -46,7 +47,7 @@ module _ (room : ℕ) (b : Block) where
       go false f g = absurd (not-both g refl)
 
   -- A block's reply is its own, and there is the room that is asked for
-  room-filled : (reply : List ℕ) → byRoom room b ≡ filled reply → (reply ≡ replyOf b) × (replyRoom b ≤ room)
+  pub room-filled : (reply : List ℕ) → byRoom room b ≡ filled reply → (reply ≡ replyOf b) × (replyRoom b ≤ room)
   unfolding byRoom
   room-filled reply e = go (ltb room (replyRoom b)) refl e
     where
@@ -107,14 +108,6 @@ demand1-accepted bytes room = (λ t r c. not-both (demand1 bytes room r .1 c) (t
     go (refused r) e none = absurd (none r (demand1 bytes room r .0 e))
     go (filled reply) e none = (reply, e)
 
--- As many answers as vectors
-results-many : (b : Block) (spent : ℕ) (vs : List (List Row)) (found : List Answer) → ResultsFrom b spent vs found
-    → length found ≡ length vs
-results-many b spent [] [] r = refl
-results-many b spent [] (a ∷ rest) r = absurd r
-results-many b spent (rows ∷ later) [] r = absurd r
-results-many b spent (rows ∷ later) (a ∷ rest) r = ap suc (results-many b (spent + a .count) later rest (r .1))
-
 -- Demand 2 of vector k, if its answer is complete
 results-exact : (b : Block) (spent : ℕ) (vs : List (List Row)) (found : List Answer) → ResultsFrom b spent vs found → (k : ℕ)
     → k < length vs → nthAnswer found k .stopped ≡ false → Demand2 (vectorOf b (getD vs k [])) (nthAnswer found k .result)
@@ -124,14 +117,23 @@ results-exact b spent (rows ∷ later) (a ∷ rest) r zero h e = r .0 .1 .exact 
 results-exact b spent (rows ∷ later) (a ∷ rest) r (suc k) h e =
     results-exact b (spent + a .count) later rest (r .1) k (omega arith) e
 
--- Demand 2, of each vector that is marked complete, follows from demand 3
-pub demand2 : (b : Block) (found : List Answer) → Demand3 b found → EachComplete b found
-demand2 b found d = record {
-  many = results-many b 0 (b .vectors) found (d .each);
-  exact = results-exact b 0 (b .vectors) found (d .each);
-}
+-- Demand 2, of each vector that is marked complete, follows from demand 3 of its owner's list, in which it stands at its rank
+pub demand2 : (b : Block) (found : List Answer) → InRange b → SharedDemand3 b found → EachComplete b found
+demand2 b found ranged d = record { many = d .many; exact = exact }
+  where
+    exact : (k : ℕ) → k < length (b .vectors) → nthAnswer found k .stopped ≡ false
+        → Demand2 (vectorOf b (getD (b .vectors) k [])) (nthAnswer found k .result)
+    exact k h e =
+        let os = b .owners in
+        let o = getD os k 0 in
+        let answer-is = own-at o os found k noAnswer (ranged .owned ∙ sym (d .many)) (omega (arith, d .many)) refl in
+        let rows-are = own-at o os (b .vectors) k [] (ranged .owned) h refl in
+        let inside = own-inside o os (b .vectors) k (ranged .owned) h refl in
+        let complete = ap (λ (a : Answer). a .stopped) answer-is ∙ e in
+        rw (answer-is, rows-are) at
+        (results-exact (alone b o) 0 (ofOwner o os (b .vectors)) (ofOwner o os found) (d .each o .each) (rank o os k) inside complete)
 
--- Demand 3: a reply, which there is room for, says the answers to a whole record's block in range, and these meet the model's demand 3
+-- Demand 3: a reply, which there is room for, says the answers to a whole record's block in range, and these meet demand 3, owner by owner
 pub demand3 : (bytes : List ℕ) (room : ℕ) (reply : List ℕ) → outcome bytes room ≡ filled reply
     → Accepted bytes reply × (length reply ≤ room)
 demand3 bytes room reply e = go (one-of-two bytes room)
@@ -142,14 +144,14 @@ demand3 bytes room reply e = go (one-of-two bytes room)
         let b = blockOf (w .layout) (w .numbers) in
         let ranged = whole-in-range bytes (length bytes) w in
         let filled-by = room-filled room b reply (sym (whole-outcome bytes room w) ∙ e) in
-        let meets = answers-meet b (shaped b ranged) in (
+        let meets = shared-demand3 b ranged in (
           record {
             whole = w;
             ranged = ranged;
-            found = answers b;
+            found = sharedAnswers b;
             reads = rw (filled-by .0) (read-back b ranged);
             demand3 = meets;
-            demand2 = demand2 b (answers b) meets;
+            demand2 = demand2 b (sharedAnswers b) ranged meets;
           },
           omega (arith, ap length (filled-by .0), reply-room b ranged, filled-by .1),
         )
@@ -158,7 +160,7 @@ demand3 bytes room reply e = go (one-of-two bytes room)
 refusals : List Refusal
 refusals =
     Opening ∷ Ends ∷ Malformed ∷ Streams ∷ Width ∷ Vectors ∷ Clip ∷ Share ∷ Diagonal ∷ Entry ∷ Received ∷ Prior ∷ Trailing ∷ Buffer ∷ Crowded
-    ∷ Weak ∷ []
+    ∷ Weak ∷ Owner ∷ []
 
 -- The refusal that a returned number tells, if it does
 abbrev toldBy : ℤ → List Refusal
@@ -183,6 +185,7 @@ told Trailing = refl
 told Buffer = refl
 told Crowded = refl
 told Weak = refl
+told Owner = refl
 
 -- Different refusals have different numbers, so that the returned number tells which it is
 pub number-tells : (r s : Refusal) → negℤ (pos (refusalNumber r)) ≡ negℤ (pos (refusalNumber s)) → r ≡ s

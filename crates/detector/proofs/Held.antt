@@ -1,36 +1,35 @@
 -- What the lent list and its header give: sizes that fit, and the answer that is written of a vector.
-use Prim.Native.Nat.{ℕ, zero, suc, _+_, _-_, _*_, _^_, _≤_, _<_}
+use Prim.Native.Nat.{ℕ, zero, suc, _+_, _*_, _^_, _≤_, _<_}
 use mathlib.Core.Path.{_≡_, sym, _∙_, ap}
 use mathlib.Core.Bool.{Bool}
 use mathlib.Core.List.{List, [], _∷_, _++_, map, Memᴰ·map}
-use native.Mathlib.Nat.{mul-le-mul, mul-le-mul-left, mul-assoc, suc-mul}
-use native.Mathlib.Numerals.{add-one}
+use native.Mathlib.Nat.{mul-le-mul, mul-assoc}
 use native.Mathlib.Omega.{arith}
 use lib.IntN.{ℤ, pos}
-use lib.ListN.{length, getD, take, drop, length-append, length-drop, List·getD-append, drop-of-length-le}
-use lib.Seq.{drop-cons, take-at}
+use lib.ListN.{length, getD, take, drop, length-append, length-drop, List·getD-append}
+use lib.Seq.{take-at}
 use Rattle.wire.specs.Writing.{Wrote}
 use Rattle.model.specs.Metric.{Vector, labelBits}
 use Rattle.model.specs.Constellation.{bitsOf}
-use Rattle.model.specs.Block.{vectorOf, Answer, answer, winningDistance, answersFrom, Every, VectorInRange, mostWidth, mostBits}
+use Rattle.model.specs.Block.{vectorOf, Answer, answer, winningDistance, Every, VectorInRange, mostWidth, mostBits}
 use Rattle.model.proofs.Lists.{in-upFrom}
 use Rattle.model.proofs.Demand.{count-is}
 use Rattle.model.proofs.Parts.{distance-small}
-use Rattle.model.proofs.Bounds.{of-every, width-small, total-small}
+use Rattle.model.proofs.Bounds.{of-every, width-small}
 use Rattle.wire.specs.Folding.{folded}
 use Rattle.block.specs.Reading.{countAt}
 use Rattle.block.specs.Contents.{vectorRows, blockOf}
 use Rattle.block.specs.declared.Layout.{Layout}
-use Rattle.block.proofs.Places.{vectors-count, vector-at}
+use Rattle.block.proofs.Places.{vectors-count}
 use Rattle.search_spec.specs.Program.{answerOf}
 use Rattle.search.specs.Values.{Answered}
-use Rattle.replies.specs.Reply.{markOf, answerNumbers, answersNumbers, written, replyRoom, mostReply}
+use Rattle.replies.specs.Reply.{markOf, answerNumbers, written, replyRoom, mostReply}
 use Rattle.search.specs.Holds.{Holds}
-use Rattle.detector.specs.Steps.{Heads, AllowanceAsked, SearchOneAsked, allowanceAt, answerAt}
+use Rattle.detector.specs.Steps.{Heads, SearchOneAsked, answerAt}
 use Rattle.replies.specs.Asked.{SoftAsked, FoundAsked}
 use Rattle.detector.specs.declared.Header.{Header}
 use Rattle.replies.proofs.Replies.{Short, soft-count, bits-are, count-short, label-short, soft-short, answer-room}
-use Rattle.replies.proofs.Replies.{written-append, written-first}
+use Rattle.replies.proofs.Replies.{written-append}
 use Rattle.replies.proofs.Steps.{wrote-both}
 
 -- What every member of a mapped list has, by its place
@@ -60,12 +59,9 @@ module _ {h : Header} {list : List ℤ} (headed : Heads h list) where
   unfolding blockOf
   weak-are = headed .weak-is
 
-  share-are : h .share ≡ blockOf (h .layout) list .share
+  pub share-are : h .share ≡ blockOf (h .layout) list .share
   unfolding blockOf
   share-are = headed .share-is
-
-  total-is : h .vectors * h .share ≡ length (blockOf (h .layout) list .vectors) * blockOf (h .layout) list .share
-  total-is = rw (vectors-are, share-are)
 
   -- The room that a reply asks for
   pub room-is : replyRoom (blockOf (h .layout) list) ≡ 7 + h .vectors * (9 + 4 * h .streams * h .width)
@@ -73,7 +69,7 @@ module _ {h : Header} {list : List ℤ} (headed : Heads h list) where
   room-is = rw (streams-are, width-are, vectors-are)
 
 module _ {h : Header} {list : List ℤ} (held : Holds (h .layout) list) (headed : Heads h list) where
-  -- M, Q and N are small, and N x D is a machine number
+  -- M, Q and N are small
   pub few-streams : h .streams ≤ 4
   few-streams = omega (arith, streams-are headed, held .ranged .streams)
 
@@ -86,9 +82,6 @@ module _ {h : Header} {list : List ℤ} (held : Holds (h .layout) list) (headed 
   pub few-soft : h .streams * h .width ≤ mostBits
   few-soft = rw (streams-are headed, width-are headed) (held .ranged .label)
 
-  pub total-fits : h .vectors * h .share < 2 ^ 32
-  total-fits = omega (arith, total-is headed, total-small (blockOf (h .layout) list) (held .ranged))
-
   -- W is at most C
   pub weak-most : h .weak ≤ h .clip
   weak-most = omega (arith, weak-are headed, clip-are headed, held .ranged .weak)
@@ -98,13 +91,6 @@ module _ {h : Header} {list : List ℤ} (held : Holds (h .layout) list) (headed 
   room-small =
       let each : 9 + 4 * h .streams * h .width ≤ 105 = omega (arith, mul-assoc 4 (h .streams) (h .width), few-soft) in
       omega (arith, room-is headed, mul-le-mul few-vectors each)
-
-  -- The nodes that the vectors are sure of
-  pub spent-none : 0 + (h .vectors - 0) * h .streams ≤ h .vectors * h .share
-  spent-none =
-      let less : h .streams ≤ h .share = omega (arith, streams-are headed, share-are headed, held .ranged .reserve) in
-      let e : h .vectors - 0 ≡ h .vectors = omega arith in
-      rw e (omega (arith, mul-le-mul-left (h .vectors) less))
 
 -- Vector k of the block
 abbrev pub vectorIn : Layout → List ℤ → ℕ → Vector
@@ -121,51 +107,24 @@ module _ {h : Header} {list : List ℤ} {k : ℕ} {points : List ℤ} {keys bits
       of-every (VectorInRange (blockOf (h .layout) list .streams) (blockOf (h .layout) list .width)) (blockOf (h .layout) list .vectors) (s .held .ranged .each)
       (Memᴰ·map (vectorRows (h .layout) list) (in-upFrom 0 (countAt 2 list) k (omega arith) (omega (arith, inside))))
 
-  -- The bits of its label, and its allowance
+  -- The bits of its label
   bits-of : labelBits (vectorIn (h .layout) list k) ≡ h .streams * h .width
   bits-of = bits-are (blockOf (h .layout) list) vector-held ∙ rw (streams-are (s .headed), width-are (s .headed))
 
-  module _ (spent : ℕ) where
-    allowance-is : h .vectors * h .share - spent - (h .vectors - (k + 1)) * h .streams ≡ allowanceAt (h .layout) list spent k
-    allowance-is = rw (total-is (s .headed), s .headed .vectors-is, streams-are (s .headed))
-
-    -- What its allowance asks
-    pub allowance-asked : spent + (h .vectors - k) * h .streams ≤ h .vectors * h .share → AllowanceAsked h spent k
-    allowance-asked left = record {
-      inside = s .inside;
-      streams = few-streams (s .held) (s .headed);
-      vectors = few-vectors (s .held) (s .headed);
-      total = total-fits (s .held) (s .headed);
-      left = left;
-    }
-
-    -- Its count leaves M nodes for each vector behind it
-    pub spent-more : spent + (h .vectors - k) * h .streams ≤ h .vectors * h .share
-        → spent + answerAt (h .layout) list spent k .count + (h .vectors - (k + 1)) * h .streams ≤ h .vectors * h .share
-    unfolding answerAt
-    spent-more left =
-        let e : h .vectors - k ≡ suc (h .vectors - (k + 1)) = omega (arith, s .inside) in
-        let one : (h .vectors - k) * h .streams ≡ (h .vectors - (k + 1)) * h .streams + h .streams = rw e (suc-mul _ (h .streams)) in
-        omega (arith, count-is (vectorIn (h .layout) list k) (blockOf (h .layout) list .weak) (allowanceAt (h .layout) list spent k), allowance-is)
-
-    -- The room that its answer takes
-    pub step-room : length (written (answerNumbers (answerAt (h .layout) list spent k))) ≤ 9 + 4 * h .streams * h .width
-    unfolding answerAt
-    step-room = rw (streams-are (s .headed), width-are (s .headed)) (answer-room (s .held .ranged) vector-held (allowanceAt (h .layout) list spent k))
+  -- The room that its answer takes
+  pub step-room : (allowed : ℕ) → length (written (answerNumbers (answerAt (h .layout) list allowed k))) ≤ 9 + 4 * h .streams * h .width
+  unfolding answerAt
+  step-room allowed = rw (streams-are (s .headed), width-are (s .headed)) (answer-room (s .held .ranged) vector-held allowed)
 
 -- What a search of vector k leaves
 module _ {h : Header} {list : List ℤ} {k : ℕ} {points : List ℤ} {keys : ℕ} {before : List ℤ}
-    (s : SearchOneAsked h list k points keys (length before)) (spent : ℕ) {allowed : ℕ}
-    (granted : allowed ≡ h .vectors * h .share - spent - (h .vectors - (k + 1)) * h .streams) {stopped : Bool} {count label distance : ℕ}
-    {after : List ℤ} (result : Answered (vectorIn (h .layout) list k) (blockOf (h .layout) list .weak) allowed stopped count label distance before after) where
-  found : Answered (vectorIn (h .layout) list k) (blockOf (h .layout) list .weak) (allowanceAt (h .layout) list spent k) stopped count label distance before after
-  found = rw (granted ∙ allowance-is s spent) at result
-
+    (s : SearchOneAsked h list k points keys (length before)) {allowed : ℕ} {stopped : Bool} {count label distance : ℕ} {after : List ℤ}
+    (found : Answered (vectorIn (h .layout) list k) (blockOf (h .layout) list .weak) allowed stopped count label distance before after) where
   abbrev soft : List ℤ
-  soft = answer (vectorIn (h .layout) list k) (blockOf (h .layout) list .weak) (allowanceAt (h .layout) list spent k) .result .soft
+  soft = answer (vectorIn (h .layout) list k) (blockOf (h .layout) list .weak) allowed .result .soft
 
   soft-length : length soft ≡ h .streams * h .width
-  soft-length = soft-count (vectorIn (h .layout) list k) (blockOf (h .layout) list .weak) (allowanceAt (h .layout) list spent k) ∙ bits-of s
+  soft-length = soft-count (vectorIn (h .layout) list k) (blockOf (h .layout) list .weak) allowed ∙ bits-of s
 
   -- The array holds the soft values, and behind them what stood there
   after-is : after ≡ soft ++ drop (h .streams * h .width) before
@@ -189,8 +148,8 @@ module _ {h : Header} {list : List ℤ} {k : ℕ} {points : List ℤ} {keys : �
   found-asked fits =
       let v = vector-held s in
       record {
-        counts = rw (found .count-is) (count-short (s .held .ranged) v (allowanceAt (h .layout) list spent k));
-        labels = rw (found .label-is) (label-short (s .held .ranged) v (allowanceAt (h .layout) list spent k));
+        counts = rw (found .count-is) (count-short (s .held .ranged) v allowed);
+        labels = rw (found .label-is) (label-short (s .held .ranged) v allowed);
         buffer = omega arith;
       }
 
@@ -203,11 +162,11 @@ module _ {h : Header} {list : List ℤ} {k : ℕ} {points : List ℤ} {keys : �
     each = λ i j.
         let inside : i < length soft = omega (arith, soft-length) in
         rw (after-is, List·getD-append soft (drop (h .streams * h .width) before) (pos 0) i inside)
-        (every-at folded soft i (soft-short (s .held .ranged) (vector-held s) (allowanceAt (h .layout) list spent k)) inside);
+        (every-at folded soft i (soft-short (s .held .ranged) (vector-held s) allowed) inside);
   }
 
   -- As a whole it is the answer
-  pub answer-is : answerOf stopped count label (take (h .streams * h .width) after) ≡ answerAt (h .layout) list spent k
+  pub answer-is : answerOf stopped count label (take (h .streams * h .width) after) ≡ answerAt (h .layout) list allowed k
   unfolding answerAt
   answer-is =
       let bits = h .streams * h .width in
@@ -219,7 +178,7 @@ module _ {h : Header} {list : List ℤ} {k : ℕ} {points : List ℤ} {keys : �
       }
 
   -- with its label's squared distance
-  pub found-distance : distance ≡ winningDistance (vectorIn (h .layout) list k) (answerAt (h .layout) list spent k)
+  pub found-distance : distance ≡ winningDistance (vectorIn (h .layout) list k) (answerAt (h .layout) list allowed k)
   unfolding answerAt
   found-distance = found .distance-is
 
@@ -231,39 +190,21 @@ module _ {h : Header} {list : List ℤ} {k : ℕ} {points : List ℤ} {keys : �
         arith,
         found-distance,
         distance-small (blockOf (h .layout) list) (s .held .ranged) (vectorRows (h .layout) list k) (v .ranged) (omega (arith, v .streams))
-            (bitsOf (labelBits (vectorIn (h .layout) list k)) (answerAt (h .layout) list spent k .result .label)),
+            (bitsOf (labelBits (vectorIn (h .layout) list k)) (answerAt (h .layout) list allowed k .result .label)),
       )
 
-  pub found-count : count ≡ answerAt (h .layout) list spent k .count
+  pub found-count : count ≡ answerAt (h .layout) list allowed k .count
   found-count = ap (λ (x : Answer). x .count) answer-is
+
+  -- with no more nodes than were allowed,
+  pub found-within : count ≤ allowed
+  found-within = omega (arith, found .count-is, count-is (vectorIn (h .layout) list k) (blockOf (h .layout) list .weak) allowed)
 
   -- which is written in two parts
   pub found-wrote : {l mid end : List ℕ} {at next last : ℕ} → Wrote l at (written (markOf stopped ∷ count ∷ label ∷ [])) mid next
       → Wrote mid next (written (map folded (take (h .streams * h .width) after))) end last
-      → Wrote l at (written (answerNumbers (answerAt (h .layout) list spent k))) end last
+      → Wrote l at (written (answerNumbers (answerAt (h .layout) list allowed k))) end last
   found-wrote =
       let softs = map folded (take (h .streams * h .width) after) in
       wrote-both
       (ap (λ (x : Answer). written (answerNumbers x)) (sym answer-is) ∙ written-append (markOf stopped ∷ count ∷ label ∷ []) softs)
-
--- What is left to write after k vectors, with `spent` nodes walked
-abbrev pub restOf : Layout → List ℤ → ℕ → ℕ → List ℕ
-restOf o list spent k = written (answersNumbers (answersFrom (blockOf o list) spent (drop k (blockOf o list .vectors))))
-
-module _ (o : Layout) (list : List ℤ) (spent k : ℕ) where
-  -- The answer of vector k, and what is left after it
-  pub rest-more : k < countAt 2 list
-      → restOf o list spent k ≡ written (answerNumbers (answerAt o list spent k)) ++ restOf o list (spent + answerAt o list spent k .count) (k + 1)
-  unfolding answerAt
-  rest-more h =
-      let vs = blockOf o list .vectors in
-      let some : k < length vs = omega (arith, vectors-count o list) in
-      let first : drop k vs ≡ vectorRows o list k ∷ drop (k + 1) vs = rw (drop-cons vs k [] some, vector-at o list k [] h, add-one) in
-      let after : length (drop (k + 1) vs) ≡ countAt 2 list - (k + 1) = omega (arith, length-drop (k + 1) vs, vectors-count o list) in
-      rw (first, ← after) (written-first (blockOf o list) spent (vectorRows o list k) (drop (k + 1) vs))
-
-  pub rest-none : countAt 2 list ≤ k → restOf o list spent k ≡ []
-  unfolding answersFrom answersNumbers written
-  rest-none h =
-      let all : length (blockOf o list .vectors) ≤ k = omega (arith, vectors-count o list) in
-      rw (drop-of-length-le (blockOf o list .vectors) all)

@@ -1,5 +1,7 @@
 pub mod Demands
+pub mod Owners
 pub mod Held
 pub mod Turns
+pub mod Shares
 pub mod Outcomes
 pub mod Readings

@@ -1,16 +1,18 @@
 -- Demand 1, from document 01, "Where a record is turned back", with document 02's rows: the conditions under which a call refuses; where
--- none holds, it accepts. Demands 2 and 3, of what the bytes of its reply say.
+-- none holds, it accepts. Demands 2 and 3, of what the bytes of its reply say, the third of each owner's vectors.
 use Prim.Native.Nat.{ℕ, _≤_, _<_}
 use mathlib.Core.Path.{_≡_}
 use mathlib.Core.Bool.{false}
-use mathlib.Core.Logic.{_⊎_}
+use mathlib.Core.Logic.{_⊎_, _↔_}
 use mathlib.Core.List.{List, [], _++_}
 use lib.IntN.{ℤ, pos, negℤ}
 use lib.ListN.{length, getD, drop}
 use Rattle.model.specs.Metric.{Vector}
 use Rattle.model.specs.Block.{Block, vectorOf, Answer, InRange}
-use Rattle.model.specs.Demand.{Demand2, Demand3}
-use Rattle.block.specs.Contents.{blockOf}
+use Rattle.model.specs.Demand.{Demand2}
+use Rattle.owners.specs.Owners.{SharedDemand3}
+use Rattle.block.specs.Reading.{headerSize, countAt, layoutOf, readWhole}
+use Rattle.block.specs.Contents.{ownerAt, vectorNumbers, blockOf}
 use Rattle.block.specs.Conditions.{Whole, TurnedBack}
 use Rattle.refusals.specs.Table.{refusalNumber}
 use Rattle.refusals.specs.declared.Refusal.{Refusal}
@@ -61,7 +63,7 @@ pub record Accepted (bytes reply : List ℕ) : Type 0 where
   pub ranged : InRange (blockOf (whole .layout) (whole .numbers))
   pub found : List Answer
   pub reads : readBack reply ≡ saying (blockOf (whole .layout) (whole .numbers)) found (length reply)
-  pub demand3 : Demand3 (blockOf (whole .layout) (whole .numbers)) found
+  pub demand3 : SharedDemand3 (blockOf (whole .layout) (whole .numbers)) found
   pub demand2 : EachComplete (blockOf (whole .layout) (whole .numbers)) found
 
 -- A call that was accepted: no row's condition holds, the reply stands in front of the buffer, and every other byte is as it was
@@ -72,6 +74,16 @@ pub record Replying (bytes buffer : List ℕ) (number : ℤ) (after : List ℕ) 
   pub fits : length reply ≤ length buffer
   pub stands : after ≡ reply ++ drop (length reply) buffer
   pub accepted : Accepted bytes reply
+
+-- What two records are to have in common for one owner: "equal headers" (the opening, M, Q, N, C, W and D), and "one owner's vectors at equal
+-- positions with equal contents" (R, y and the priors). What the other vectors hold, and who owns them, is free
+pub record AgreeFor (o : ℕ) (bytes others : List ℕ) : Type 0 where
+  pub opening : layoutOf bytes ≡ layoutOf others
+  pub header : (i : ℕ) → i < headerSize (layoutOf bytes) → getD (readWhole bytes .numbers) i (pos 0) ≡ getD (readWhole others .numbers) i (pos 0)
+  pub positions : (k : ℕ) → k < countAt 2 (readWhole bytes .numbers)
+      → (ownerAt (layoutOf bytes) (readWhole bytes .numbers) k ≡ o) ↔ (ownerAt (layoutOf others) (readWhole others .numbers) k ≡ o)
+  pub contents : (k : ℕ) → k < countAt 2 (readWhole bytes .numbers) → ownerAt (layoutOf bytes) (readWhole bytes .numbers) k ≡ o
+      → vectorNumbers (layoutOf bytes) (readWhole bytes .numbers) k ≡ vectorNumbers (layoutOf others) (readWhole others .numbers) k
 
 -- The user's demands, of a record, a buffer, the returned number and the buffer afterwards
 abbrev pub Met : List ℕ → List ℕ → ℤ → List ℕ → Type 0

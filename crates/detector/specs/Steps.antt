@@ -1,9 +1,9 @@
 -- What the steps of a call ask, and the answer that each vector is given.
-use Prim.Native.Nat.{ℕ, _+_, _-_, _*_, _^_, _<_, _≤_}
+use Prim.Native.Nat.{ℕ, _+_, _*_, _<_, _≤_}
 use mathlib.Core.Path.{_≡_}
 use mathlib.Core.List.{List}
 use lib.IntN.{ℤ}
-use Rattle.model.specs.Block.{Answer, vectorOf, answer, allowance, mostStreams, mostBits, mostVectors}
+use Rattle.model.specs.Block.{Answer, vectorOf, answer, mostBits}
 use Rattle.block.specs.Reading.{weakPlace, sharePlace, countAt}
 use Rattle.block.specs.declared.Layout.{Layout}
 use Rattle.block.specs.Contents.{vectorRows, blockOf}
@@ -22,22 +22,20 @@ pub record Heads (h : Header) (list : List ℤ) : Type 0 where
   pub weak-is : h .weak ≡ countAt (weakPlace (h .layout)) list
   pub share-is : h .share ≡ countAt (sharePlace (h .layout)) list
 
--- The allowance of vector k, from 0, after `spent` nodes were walked: N - (k + 1) vectors stand behind it
-abbrev pub allowanceAt : Layout → List ℤ → ℕ → ℕ → ℕ
-allowanceAt layout list spent k = allowance (blockOf layout list) spent (countAt 2 list - (k + 1))
-
--- and its answer
+-- The answer of vector k, from 0, under an allowance
 unfoldable pub answerAt : Layout → List ℤ → ℕ → ℕ → Answer
-answerAt layout list spent k =
-    answer (vectorOf (blockOf layout list) (vectorRows layout list k)) (blockOf layout list .weak) (allowanceAt layout list spent k)
+answerAt layout list allowed k =
+    answer (vectorOf (blockOf layout list) (vectorRows layout list k)) (blockOf layout list .weak) allowed
 
--- What an allowance asks: M nodes are left for each vector from k on, and N x D is a machine number
-pub record AllowanceAsked (h : Header) (spent k : ℕ) : Type 0 where
+-- What is asked of the lent list and its header
+pub record ListAsked (h : Header) (list : List ℤ) : Type 0 where
+  pub held : Holds (h .layout) list
+  pub headed : Heads h list
+
+-- and of one of its vectors
+pub record OwnerAsked (h : Header) (list : List ℤ) (k : ℕ) : Type 0 where
+  pub asked : ListAsked h list
   pub inside : k < h .vectors
-  pub streams : h .streams ≤ mostStreams
-  pub vectors : h .vectors ≤ mostVectors
-  pub total : h .vectors * h .share < 2 ^ 32
-  pub left : spent + (h .vectors - k) * h .streams ≤ h .vectors * h .share
 
 -- What searching vector k asks: the lent list, its header, the points of its constellation, room for keys, and an array for the soft values
 pub record SearchOneAsked (h : Header) (list : List ℤ) (k : ℕ) (points : List ℤ) (keys bits : ℕ) : Type 0 where
@@ -48,10 +46,10 @@ pub record SearchOneAsked (h : Header) (list : List ℤ) (k : ℕ) (points : Lis
   pub work : keyPlaces ≤ keys
   pub array : bits ≡ mostBits
 
--- What answering it asks: besides, M nodes for each vector from k on, and room for an answer
-pub record StepAsked (h : Header) (list : List ℤ) (k at spent : ℕ) (points : List ℤ) (keys bits room : ℕ) : Type 0 where
+-- What answering it asks: besides, M nodes, and room for an answer
+pub record StepAsked (h : Header) (list : List ℤ) (k at allowed : ℕ) (points : List ℤ) (keys bits room : ℕ) : Type 0 where
   pub search : SearchOneAsked h list k points keys bits
-  pub left : spent + (h .vectors - k) * h .streams ≤ h .vectors * h .share
+  pub least : h .streams ≤ allowed
   pub buffer : at + (9 + 4 * h .streams * h .width) ≤ room
 
 -- What a reply asks

@@ -7,18 +7,22 @@ use refusals::Refusal;
 use search::Found;
 use tree::Task;
 ghost use mathlib.Core.Path.{_≡_};
-ghost use Prim.Native.Nat.{_+_, _-_, _*_, _<_, _≤_};
+ghost use Prim.Native.Nat.{_-_, _<_, _≤_};
 ghost use lib.ListN.{length};
 ghost use Rattle.wire.specs.Writing.{Wrote};
 ghost use Rattle.model.specs.Block.{vectorOf, mostBits};
 ghost use Rattle.block.specs.Reading.{mostNumbers};
-ghost use Rattle.block.specs.Contents.{vectorRows, blockOf};
+ghost use Rattle.block.specs.Contents.{ownerAt, vectorRows, blockOf};
+ghost use Rattle.owners.specs.Spares.{Spares};
 ghost use Rattle.search.specs.Values.{Answered};
 ghost use Rattle.replies.specs.Reply.{answerNumbers, written, replyOf};
 ghost use Rattle.refusals.specs.Filling.{returned, bufferAfter};
 ghost use Rattle.detector.specs.Outcome.{outcome, byRoom};
 ghost use Rattle.search.specs.Holds.{Holds};
-ghost use Rattle.detector.specs.Steps.{Heads, answerAt, AllowanceAsked, SearchOneAsked, StepAsked, ReplyAsked};
+ghost use Rattle.detector.specs.Steps.{Heads, answerAt, OwnerAsked, ListAsked, SearchOneAsked, StepAsked, ReplyAsked};
+
+// What each owner has to spare stands in an array, in the place of its number, which is 1 to 4.
+pub const SPARES: usize = 5;
 
 // A record's M, Q, N, C, W and D, and its layout.
 pub struct Header {
@@ -31,10 +35,11 @@ pub struct Header {
     pub share: u32,
 }
 
-// How far the vectors are answered: the place after the last answer, and the nodes that were walked.
+// How far the vectors are answered: the place after the last answer; and before a vector the nodes that it may walk, after it those that it
+// left.
 struct Step {
     at: usize,
-    spent: u32,
+    nodes: u32,
 }
 
 // The header of the lent list, which has a layout.
@@ -53,13 +58,35 @@ pub fn header_of(layout: Layout, numbers: &[i32]) -> Header
     }
 }
 
-// The nodes that vector k, from 0, may walk, M or more: N x D, less those spent, less M for each vector behind it.
-pub fn allowance(h: Header, spent: u32, k: usize) -> u32
-    requires { ⌜ AllowanceAsked h spent k ⌝ }
-    ensures { λ r. ⌜ (r ≡ h .vectors * h .share - spent - (h .vectors - (k + 1)) * h .streams) × (h .streams ≤ r) ⌝ }
+// The owner of vector k, from 0. A record without owners has one for all vectors, owner 1.
+pub fn owner_of(numbers: &[i32], h: Header, k: usize) -> usize
+    requires { ⌜ OwnerAsked h (now numbers) k ⌝ }
+    ensures { λ r. ⌜ r ≡ ownerAt (h .layout) (now (numbers .entry)) k ⌝ }
 {
-    let reserve = (h.vectors - 1 - k) * h.streams;
-    h.vectors as u32 * h.share - spent - reserve as u32
+    let layout = h.layout;
+    if block::own_count(layout) == 0 {
+        return 1;
+    }
+    let place = block::vector_start(layout, h.streams, h.width, k);
+    block::count_at(numbers, place) as usize
+}
+
+// The nodes that each owner may walk beyond M for each of its vectors: D - M for every one of them.
+pub fn set_aside(numbers: &[i32], h: Header) -> [u32; SPARES]
+    requires { ⌜ ListAsked h (now numbers) ⌝ }
+    ensures { λ r. ⌜ Spares (blockOf (h .layout) (now (numbers .entry))) r (λ o. 0)
+        (blockOf (h .layout) (now (numbers .entry)) .owners) (blockOf (h .layout) (now (numbers .entry)) .vectors) ⌝ }
+{
+    let more = h.share - h.streams as u32;
+    let n = h.vectors;
+    let mut spare = [0u32; SPARES];
+    let mut k = 0;
+    while k < n {
+        let owner = owner_of(numbers, h, k);
+        spare[owner] = spare[owner] + more;
+        k += 1;
+    }
+    spare
 }
 
 // Vector k, from 0, is searched under an allowance: what the reply says of it, its soft values at the front of `soft`, and its label's squared
@@ -80,7 +107,8 @@ pub fn search_one(
 {
     let layout = h.layout;
     let size = block::vector_size(h.streams, h.width);
-    let from = block::header_size(layout) + k * size;
+    let start = block::vector_start(layout, h.streams, h.width, k);
+    let from = start + block::own_count(layout);
     let to = from + size;
     let task = Task {
         streams: h.streams,
@@ -91,7 +119,7 @@ pub fn search_one(
     search::search_vector(task, h.weak, points, &numbers[from..to], keys, soft)
 }
 
-// Vector k, from 0, is searched under what those before it left, and its answer is written.
+// Vector k, from 0, is searched under the nodes that it may walk, and its answer is written.
 fn answer_one(
     numbers: &[i32],
     h: Header,
@@ -102,22 +130,23 @@ fn answer_one(
     soft: &mut [i32; LABEL_BITS],
     reply: &mut [u8],
 ) -> Step
-    requires { ⌜ StepAsked h (now numbers) k (step .at) (step .spent) (now points) (length (now keys)) (length (now soft)) (length (now reply)) ⌝ }
-    ensures { λ r. ⌜ Wrote (now (reply .entry)) (step .at) (written (answerNumbers (answerAt (h .layout) (now (numbers .entry)) (step .spent) k)))
+    requires { ⌜ StepAsked h (now numbers) k (step .at) (step .nodes) (now points) (length (now keys)) (length (now soft)) (length (now reply)) ⌝ }
+    ensures { λ r. ⌜ Wrote (now (reply .entry)) (step .at) (written (answerNumbers (answerAt (h .layout) (now (numbers .entry)) (step .nodes) k)))
         (now (reply .exit)) (r .at)
-        × (r .spent ≡ step .spent + answerAt (h .layout) (now (numbers .entry)) (step .spent) k .count)
+        × (r .nodes ≡ step .nodes - answerAt (h .layout) (now (numbers .entry)) (step .nodes) k .count)
         × (length (now (soft .exit)) ≡ mostBits) ⌝ }
 {
-    let allowed = allowance(h, step.spent, k);
+    let allowed = step.nodes;
     let found = search_one(numbers, h, k, allowed, points, keys, soft);
     let walked = found.count;
     let next = replies::write_found(reply, step.at, found.stopped, walked, found.label);
     let at = replies::write_soft(reply, next, soft, h.streams * h.width);
-    let spent = step.spent + walked;
-    Step { at, spent }
+    let nodes = allowed - walked;
+    Step { at, nodes }
 }
 
-// The whole reply, vector by vector in record order; its length.
+// The whole reply, vector by vector in record order; its length. An owner's vector may walk what the owner has to spare, and M nodes more; what
+// it leaves of both is to spare for the owner's next one.
 fn answer_all(numbers: &[i32], h: Header, reply: &mut [u8]) -> usize
     requires { ⌜ ReplyAsked h (now numbers) (length (now reply)) ⌝ }
     ensures { λ r. ⌜ Wrote (now (reply .entry)) 0 (replyOf (blockOf (h .layout) (now (numbers .entry)))) (now (reply .exit)) r ⌝ }
@@ -127,17 +156,21 @@ fn answer_all(numbers: &[i32], h: Header, reply: &mut [u8]) -> usize
     // Room for every search to work in, cleared once a record.
     let mut keys = [0u64; search::KEYS];
     let mut soft = [0i32; LABEL_BITS];
-    let mut step = Step {
-        at: replies::write_head(reply, h.streams, h.width, h.vectors),
-        spent: 0,
-    };
+    let mut spare = set_aside(numbers, h);
+    let mut at = replies::write_head(reply, h.streams, h.width, h.vectors);
+    let m = h.streams as u32;
     let n = h.vectors;
     let mut k = 0;
     while k < n {
-        step = answer_one(numbers, h, k, step, &points, &mut keys, &mut soft, reply);
+        let owner = owner_of(numbers, h, k);
+        let nodes = spare[owner] + m;
+        let step = Step { at, nodes };
+        let next = answer_one(numbers, h, k, step, &points, &mut keys, &mut soft, reply);
+        spare[owner] = next.nodes;
+        at = next.at;
         k += 1;
     }
-    step.at
+    at
 }
 
 // The reply to the record that the lent list holds, if the buffer has room for any reply of its size.

@@ -7,7 +7,9 @@
 // Then the edges: D = 1, D = 2, C = 16,777,216, buffers of 23, 24 and 30 bytes. The listing's record with 41 and 40 bytes. An empty
 // record; the listing's with a byte behind it, that with no buffer, and cut after 20 bytes; Q = 3, M = 5, N = 0. The first one again.
 // Then document 02's opening with W: M = 2 with C = 10, W = 7 and D = 4, 5; M = 1 with y = 2, C = 5, W = 0, and with prior 10, W = 3, D = 1;
-// W = C + 1; C and W above range; W in needless groups; and an opening that is none.
+// W = C + 1; C and W above range; W in needless groups; and an opening that is none. Then its opening with owners: M = 1 of owner 4, with 20
+// and 19 bytes; owner 5; none; D below M; owner 4 in needless groups, 128 in two; owner 0 before a diagonal of 0. M = 2 of owners 1, 2, 1, 2
+// and 1, 1, 2 with D = 3, of 1, 2, 2, 1 with D = 4, and with W = 7 of 1, 3, 1 and 1, 4, 1, where owner 4's vector is another.
 use cases::Case;
 use libc::STDIN_FILENO;
 use libc::STDOUT_FILENO;

@@ -7,7 +7,8 @@ use Rattle.model.specs.Metric.{dot, residual, priorCost, increment, metric, dis
 use Rattle.model.specs.Order.{earlier}
 use Rattle.model.specs.Soft.{leastOf, those, pick, upFrom}
 use Rattle.model.specs.Walk.{passes, insert, sort, children, walkBelow}
-use Rattle.model.specs.Block.{answer, answersFrom, totalCount}
+use Rattle.model.specs.Block.{answer, totalCount}
+use Rattle.owners.specs.Owners.{ofOwner, sharedFrom}
 use Rattle.wire.specs.Reading.{numberAt, groups, aboveDigits, lastGroup}
 use Rattle.wire.specs.Folding.{unfolded}
 use Rattle.block.specs.Reading.{byNumber, numbersAt, kindsOf, runsOf, matrixRuns, vectorKinds, startsWith, layoutOf, stagesAt}
@@ -33,6 +34,6 @@ pub listing-reading : listingOf listingRecord
     ∷ []
 unfolding listingOf readWhole readRecord layoutOf stagesAt vectorKinds numbersAt kindsOf runsOf matrixRuns byNumber numberAt groups aboveDigits
     lastGroup unfolded startsWith blockOf rowsOf rowsFrom complexes upFrom number symbols amplitude point dot residual priorCost increment
-    metric distance cost allPriors earlier leastOf those pick passes insert sort children walkBelow answer answersFrom blockText headLine linesFrom
+    metric distance cost allPriors earlier leastOf those pick passes insert sort children walkBelow answer ofOwner sharedFrom blockText headLine linesFrom
     totalLine totalCount vectorLine field decimalOf decimals againstIn bitsOf softText valueText
 listing-reading = refl

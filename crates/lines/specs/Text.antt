@@ -6,7 +6,8 @@ use lib.Dec.{ltb}
 use lib.IntN.{ℤ, pos, negsuc}
 use lib.ListN.{length}
 use Rattle.model.specs.Metric.{Row, allPriors}
-use Rattle.model.specs.Block.{Block, vectorOf, Answer, winningDistance, answers, totalCount}
+use Rattle.model.specs.Block.{Block, vectorOf, Answer, winningDistance, totalCount}
+use Rattle.owners.specs.Owners.{sharedAnswers}
 use Rattle.refusals.specs.Table.{refusalNumber}
 use Rattle.block.specs.Reading.{layoutOf, readWhole}
 use Rattle.block.specs.declared.Layout.{Layout}
@@ -104,8 +105,8 @@ totalLine n = field totalWord n ++ lineEnd
 unfoldable pub blockText : Block → List ℕ
 blockText b =
     headLine (b .streams) (b .width) (length (b .vectors)) (b .clip) (b .share)
-    ++ linesFrom b 1 (b .vectors) (answers b)
-    ++ totalLine (totalCount (answers b))
+    ++ linesFrom b 1 (b .vectors) (sharedAnswers b)
+    ++ totalLine (totalCount (sharedAnswers b))
 
 -- 'A refused record prints "refused " and the number, alone'
 unfoldable pub refusedLine : ℕ → List ℕ

@@ -9,7 +9,7 @@ use lib.IntN.{ℤ}
 use lib.ListN.{length, take, drop, length-drop}
 use lib.Seq.{take-add, take-take, drop-at, drop-drop, length-take-le}
 use Rattle.model.specs.Metric.{allPriors}
-use Rattle.block.specs.Reading.{headerSize, countAt, vectorSize, mostNumbers}
+use Rattle.block.specs.Reading.{ownCount, headerSize, countAt, vectorSize, ownedSize, mostNumbers}
 use Rattle.block.specs.Contents.{vectorNumbers, vectorRows, blockOf}
 use Rattle.block.specs.declared.Layout.{Layout}
 use Rattle.block.proofs.Places.{all-priors}
@@ -20,10 +20,10 @@ use Rattle.search.proofs.Records.{vector-end}
 use Rattle.wire.specs.Writing.{Wrote}
 use Rattle.detector.specs.Steps.{answerAt}
 use Rattle.detector.specs.declared.Header.{Header}
-use Rattle.detector.proofs.Held.{few-soft, total-fits, vectorIn, inside, spent-more, after-length, answer-is, found-distance, distance-few, found-count}
+use Rattle.detector.proofs.Held.{few-soft, vectorIn, inside, after-length, answer-is, found-distance, distance-few, found-count}
 use Rattle.lines.specs.Text.{vectorLine, mostLine}
 use Rattle.lines.specs.Asked.{told, LineAsked}
-use Rattle.listing.specs.Steps.{vectorEnd, NumberedAsked, Numbered}
+use Rattle.listing.specs.Steps.{NumberedAsked, Numbered}
 use Rattle.listing.specs.declared.Progress.{Progress}
 use Rattle.lines.proofs.Pieces.{wrote-same}
 
@@ -35,13 +35,17 @@ module _ {o : Layout} {list : List ℤ} (held : Holds o list) {m q : ℕ} (em : 
     (inside : k < countAt 2 list) where
   -- Where vector k ends, and where its priors begin
   abbrev end : ℕ
-  end = headerSize o + (k + 1) * vectorSize m q
+  end = headerSize o + (k + 1) * ownedSize (ownCount o) m q
 
   abbrev from : ℕ
   from = end - m * q
 
-  end-is : end ≡ headerSize o + k * vectorSize m q + vectorSize m q
-  end-is = rw (add-one k) (omega (arith, suc-mul k (vectorSize m q)))
+  -- Its numbers begin behind its owner's
+  abbrev start : ℕ
+  start = headerSize o + k * ownedSize (ownCount o) m q + ownCount o
+
+  end-is : end ≡ start + vectorSize m q
+  end-is = rw (add-one k) (omega (arith, suc-mul k (ownedSize (ownCount o) m q)))
 
   -- It ends within the list, and its priors within it
   pub end-small : end ≤ mostNumbers
@@ -53,7 +57,6 @@ module _ {o : Layout} {list : List ℤ} (held : Holds o list) {m q : ℕ} (em : 
   -- Its priors
   pub priors-are : take (end - from) (drop from list) ≡ allPriors (vectorRows o list k)
   priors-are =
-      let start = headerSize o + k * vectorSize m q in
       let size : end - from ≡ m * q = omega (arith, bits-less) in
       let place : from ≡ start + (m * m + 2 * m) = omega (arith, end-is) in
       let room : m * m + 2 * m + m * q ≤ length (drop start list) = omega (arith, length-drop start list, held .room, end-is, end-small) in
@@ -72,10 +75,9 @@ module _ {o : Layout} {list : List ℤ} (held : Holds o list) {m q : ℕ} (em : 
 
 -- What the search of vector k found, and the line that is written of it
 module _ {h : Header} {list : List ℤ} {k : ℕ} {step : Progress} {points : List ℤ} {keys : ℕ} {before : List ℤ} {room : ℕ}
-    (s : NumberedAsked h list k step points keys (length before) room) {allowed : ℕ}
-    (granted : allowed ≡ h .vectors * h .share - step .total - (h .vectors - (k + 1)) * h .streams) (f : Found) {after : List ℤ}
-    (result : Answered (vectorIn (h .layout) list k) (blockOf (h .layout) list .weak) allowed (f .stopped) (f .count) (f .label) (f .distance) before after)
-    (end : ℕ) (end-at : end ≡ vectorEnd h k) where
+    (s : NumberedAsked h list k step points keys (length before) room) (f : Found) {after : List ℤ}
+    (result : Answered (vectorIn (h .layout) list k) (blockOf (h .layout) list .weak) (step .nodes) (f .stopped) (f .count) (f .label) (f .distance) before after)
+    (end : ℕ) (end-at : end ≡ headerSize (h .layout) + (k + 1) * ownedSize (ownCount (h .layout)) (h .streams) (h .width)) where
   abbrev o : Layout
   o = h .layout
 
@@ -92,33 +94,28 @@ module _ {h : Header} {list : List ℤ} {k : ℕ} {step : Progress} {points : Li
   pub line-asked : LineAsked (step .at) (length after) (length priors) (f .distance) room
   line-asked = record {
     few = omega (arith, many, few-soft (s .search .held) (s .search .headed));
-    array = after-length (s .search) (step .total) granted result;
-    digits = distance-few (s .search) (step .total) granted result;
+    array = after-length (s .search) result;
+    digits = distance-few (s .search) result;
     buffer = s .buffer;
   }
 
   -- The nodes so far are a machine number
   pub sum-small : step .total + f .count < 2 ^ 32
-  sum-small =
-      omega (
-        arith,
-        found-count (s .search) (step .total) granted result,
-        spent-more (s .search) (step .total) (s .left),
-        total-fits (s .search .held) (s .search .headed),
-      )
+  sum-small = omega (arith, found-count (s .search) result, s .sum)
 
   -- What it leaves
   pub numbered : {text text′ : List ℕ} {at number : ℕ} → at ≤ step .at + mostLine
       → Wrote text (step .at) (vectorLine number (told f (take (length priors) after)) priors (f .distance)) text′ at → number ≡ k + 1
-      → Numbered text o list k step text′ (record { at = at; total = step .total + f .count })
+      → Numbered text o list k step text′ (record { at = at; total = step .total + f .count; nodes = step .nodes - f .count })
   numbered near w one = record {
     line =
         wrote-same
         (λ j. vectorLine (one j) (is j) (own j)
-        (found-distance (s .search) (step .total) granted result j)) w;
+        (found-distance (s .search) result j)) w;
     room = near;
-    total-is = ap (_+_ (step .total)) (found-count (s .search) (step .total) granted result);
+    total-is = ap (_+_ (step .total)) (found-count (s .search) result);
+    left-is = ap (_-_ (step .nodes)) (found-count (s .search) result);
   }
     where
-      is : told f (take (length priors) after) ≡ answerAt o list (step .total) k
-      is = ap (λ (n : ℕ). told f (take n after)) many ∙ answer-is (s .search) (step .total) granted result
+      is : told f (take (length priors) after) ≡ answerAt o list (step .nodes) k
+      is = ap (λ (n : ℕ). told f (take n after)) many ∙ answer-is (s .search) result

@@ -6,34 +6,34 @@ use detector::Header;
 use metric::LABEL_BITS;
 ghost use mathlib.Core.Path.{_≡_};
 ghost use mathlib.Core.List.{_++_};
-ghost use Prim.Native.Nat.{_<_, _≤_};
+ghost use Prim.Native.Nat.{_≤_};
 ghost use lib.ListN.{length, drop};
 ghost use Rattle.io.specs.Counts.{Counts};
 ghost use Rattle.wire.specs.Writing.{Wrote};
-ghost use Rattle.model.specs.Block.{mostStreams, mostWidth, mostBits, mostVectors};
+ghost use Rattle.model.specs.Block.{mostBits};
 ghost use Rattle.block.specs.Contents.{blockOf};
 ghost use Rattle.lines.specs.Text.{mostText, blockText, listingOf};
-ghost use Rattle.listing.specs.Steps.{vectorEnd, NumberedAsked, Numbered, VectorsAsked, VectorsListed, BlockAsked};
+ghost use Rattle.listing.specs.Steps.{NumberedAsked, Numbered, VectorsAsked, VectorsListed, BlockAsked};
 
 // Room for the listing of any record: a first line of at most 87 bytes, 64 lines of at most 354, a last one of at most 17.
 pub const MOST_TEXT: usize = 22760;
 
-// How far the vectors are listed: the place after the last line, and the nodes of these vectors.
+// How far the vectors are listed: the place after the last line and the nodes of these vectors; and before a vector the nodes that it may walk,
+// after it those that it left.
 struct Progress {
+    at: usize,
+    total: u32,
+    nodes: u32,
+}
+
+// All vectors listed: the place after the last line, and the nodes of all.
+struct Listed {
     at: usize,
     total: u32,
 }
 
-// Where the numbers of vector k, from 0, end in the lent list.
-fn vector_end(h: Header, k: usize) -> usize
-    requires { ⌜ (h .streams ≤ mostStreams) × (h .width ≤ mostWidth) × (k < mostVectors) ⌝ }
-    ensures { λ r. ⌜ r ≡ vectorEnd h k ⌝ }
-{
-    let layout = h.layout;
-    block::header_size(layout) + (k + 1) * block::vector_size(h.streams, h.width)
-}
-
-// The line of vector k, from 0, which is searched under what those before it left; its priors are the last of its numbers.
+// The line of vector k, from 0, which is searched under the nodes that it may walk. Its priors are the last of its numbers, and these end
+// where the next vector would begin.
 fn write_numbered(
     text: &mut [u8],
     numbers: &[i32],
@@ -48,9 +48,10 @@ fn write_numbered(
     ensures { λ r. ⌜ Numbered (now (text .entry)) (h .layout) (now (numbers .entry)) k step (now (text .exit)) r
         × (length (now (soft .exit)) ≡ mostBits) ⌝ }
 {
-    let allowed = detector::allowance(h, step.total, k);
+    let allowed = step.nodes;
+    let layout = h.layout;
     let found = detector::search_one(numbers, h, k, allowed, points, keys, soft);
-    let end = vector_end(h, k);
+    let end = block::vector_start(layout, h.streams, h.width, k + 1);
     let from = end - h.streams * h.width;
     let at = lines::write_line(
         text,
@@ -61,11 +62,13 @@ fn write_numbered(
         &numbers[from..end],
     );
     let total = step.total + found.count;
-    Progress { at, total }
+    let nodes = allowed - found.count;
+    Progress { at, total, nodes }
 }
 
-// The lines of all vectors, in record order; the place after them, and the nodes of all.
-fn write_vectors(text: &mut [u8], layout: Layout, numbers: &[i32], at: usize) -> Progress
+// The lines of all vectors, in record order; the place after them, and the nodes of all. The owners' nodes go from vector to vector as in the
+// detector.
+fn write_vectors(text: &mut [u8], layout: Layout, numbers: &[i32], at: usize) -> Listed
     requires { ⌜ VectorsAsked layout (now numbers) at (length (now text)) ⌝ }
     ensures { λ r. ⌜ VectorsListed (now (text .entry)) layout (now (numbers .entry)) at (now (text .exit)) r ⌝ }
 {
@@ -74,14 +77,27 @@ fn write_vectors(text: &mut [u8], layout: Layout, numbers: &[i32], at: usize) ->
     constellation::fill(h.width, &mut points);
     let mut keys = [0u64; search::KEYS];
     let mut soft = [0i32; LABEL_BITS];
+    let mut spare = detector::set_aside(numbers, h);
+    let m = h.streams as u32;
     let n = h.vectors;
-    let mut step = Progress { at, total: 0 };
+    let mut done = at;
+    let mut total = 0;
     let mut k = 0;
     while k < n {
-        step = write_numbered(text, numbers, h, k, step, &points, &mut keys, &mut soft);
+        let owner = detector::owner_of(numbers, h, k);
+        let nodes = spare[owner] + m;
+        let step = Progress {
+            at: done,
+            total,
+            nodes,
+        };
+        let next = write_numbered(text, numbers, h, k, step, &points, &mut keys, &mut soft);
+        spare[owner] = next.nodes;
+        done = next.at;
+        total = next.total;
         k += 1;
     }
-    step
+    Listed { at: done, total }
 }
 
 // The listing of the record that the lent list holds; the place after it.

@@ -26,9 +26,9 @@ a & b = record { re = a; im = b }
 abbrev pub row : ℕ → List Complex → Complex → List ℤ → Row
 row d entries y ps = record { diagonal = d; right = entries; received = y; priors = ps }
 
--- M, Q, C, W, D and the vectors
+-- M, Q, C, W, D and the vectors of one owner
 abbrev pub blockWith : ℕ → ℕ → ℕ → ℕ → ℕ → List (List Row) → Block
-blockWith m q c w d vs = record { streams = m; width = q; clip = c; weak = w; share = d; vectors = vs }
+blockWith m q c w d vs = record { streams = m; width = q; clip = c; weak = w; share = d; owners = map (λ (v : List Row). 1) vs; vectors = vs }
 
 -- M, Q, C, D and the vectors of an older record: it "has W = C" (document 02), as all of document 01's have
 abbrev pub block : ℕ → ℕ → ℕ → ℕ → List (List Row) → Block

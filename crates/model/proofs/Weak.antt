@@ -26,7 +26,15 @@ empty-most false h = le-refl _
 
 -- "The walk still uses C": with another W a block has the same marks, counts and labels
 abbrev pub withWeak : ℕ → Block → Block
-withWeak w b = record { streams = b .streams; width = b .width; clip = b .clip; weak = w; share = b .share; vectors = b .vectors }
+withWeak w b = record {
+  streams = b .streams;
+  width = b .width;
+  clip = b .clip;
+  weak = w;
+  share = b .share;
+  owners = b .owners;
+  vectors = b .vectors;
+}
 
 abbrev pub withoutSoft : Answer → Answer
 withoutSoft a = record { stopped = a .stopped; count = a .count; result = record { label = a .result .label; soft = [] } }

@@ -1,5 +1,5 @@
--- Document 01, "Allowance": a block's vectors searched in record order under the shared allowance; document 02's W, "a weaker value after a
--- stop"; and the ranges of "The record".
+-- Document 01, "Allowance": a list of vectors searched in record order under the allowance that they share; document 02's W, "a weaker value
+-- after a stop"; and the ranges of "The record". How the vectors of several owners share a block is said in the crate `owners`.
 use Prim.Native.Nat.{ℕ, _+_, _-_, _*_, _≤_}
 use mathlib.Core.Path.{_≡_}
 use mathlib.Core.Bool.{Bool, cond}
@@ -12,13 +12,15 @@ use Rattle.model.specs.Metric.{Row, Vector, labelBits, distanceOf}
 use Rattle.model.specs.Soft.{Report, report}
 use Rattle.model.specs.Walk.{walk, leaves}
 
--- What a block record holds: M, Q, C, W (what a stopped vector's empty side gives), D and the rows of each of its N vectors
+-- What a block record holds: M, Q, C, W (what a stopped vector's empty side gives), D and, of each of its N vectors, the owner's number and
+-- the rows
 pub record Block : Type 0 where
   pub streams : ℕ
   pub width : ℕ
   pub clip : ℕ
   pub weak : ℕ
   pub share : ℕ
+  pub owners : List ℕ
   pub vectors : List (List Row)
 
 -- One of its vectors, with Q and C. "The walk still uses C" (document 02): walk, limits and pass test are those of a Vector, which has no W
@@ -62,7 +64,7 @@ answer v weak n = record {
 abbrev pub winningDistance : Vector → Answer → ℕ
 winningDistance v a = distanceOf v (bitsOf (labelBits v) (a .result .label))
 
--- N × D, the nodes that the block may walk
+-- N × D, the nodes that N vectors may walk
 abbrev pub total : Block → ℕ
 total b = length (b .vectors) * b .share
 
@@ -77,7 +79,7 @@ answersFrom b spent [] = []
 answersFrom b spent (rows ∷ later) =
     let a = answer (vectorOf b rows) (b .weak) (allowance b spent (length later)) in a ∷ answersFrom b (spent + a .count) later
 
--- The answers of a block: "the first vector finds nothing spent"
+-- The answers of a block whose vectors are one list, whoever owns them: "the first vector finds nothing spent"
 abbrev pub answers : Block → List Answer
 answers b = answersFrom b 0 (b .vectors)
 
@@ -141,6 +143,10 @@ mostReceived = 131071
 abbrev pub mostPrior : ℕ
 mostPrior = 1048575
 
+-- "an owner number 1 to 4" (document 02)
+abbrev pub mostOwner : ℕ
+mostOwner = 4
+
 -- "Q bits each: 1, 2, 4 or 6", and document 02's 8, "with up to three streams"
 abbrev pub widths : List ℕ
 widths = 1 ∷ 2 ∷ 4 ∷ 6 ∷ 8 ∷ []
@@ -178,3 +184,5 @@ pub record InRange (b : Block) : Type 0 where
   pub reserve : b .streams ≤ b .share
   pub share : b .share ≤ mostShare
   pub each : Every (VectorInRange (b .streams) (b .width)) (b .vectors)
+  pub owned : length (b .owners) ≡ length (b .vectors)
+  pub owners : Every (λ (o : ℕ). (1 ≤ o) × (o ≤ mostOwner)) (b .owners)

@@ -117,7 +117,7 @@ ResultsFrom b spent (rows ∷ later) [] = ⊥
 ResultsFrom b spent (rows ∷ later) (a ∷ rest) =
     ((n : ℕ) × Result b spent (length later) n (vectorOf b rows) a) × ResultsFrom b (spent + a .count) later rest
 
--- Demand 3: one claim about a block's whole list of vectors and their answers. "The reply's counts add up to at most N × D"
+-- Demand 3: one claim about a whole list of vectors and their answers. "The reply's counts add up to at most N × D"
 pub record Demand3 (b : Block) (found : List Answer) : Type 0 where
   pub sum : totalCount found ≤ length (b .vectors) * b .share
   pub each : ResultsFrom b 0 (b .vectors) found

@@ -1,5 +1,5 @@
 // The record reader: every list of bytes is read into its whole numbers, each read and then ranged before the next, or refused by the first check
-// that fails: document 01, "The record" and "Where a record is turned back", with document 02's 15 and 16.
+// that fails: document 01, "The record" and "Where a record is turned back", with document 02's 15 to 17.
 use block::Layout;
 use block::MOST_NUMBERS;
 use block::One;
@@ -8,6 +8,7 @@ use block::Read;
 use block::count_of;
 use block::header_size;
 use block::opening;
+use block::own_count;
 use block::run_at;
 use block::run_count;
 use block::vector_size;
@@ -22,7 +23,7 @@ ghost use mathlib.Core.Path.{_≡_};
 ghost use mathlib.Core.List.{[], _∷_};
 ghost use Prim.Native.Nat.{_+_, _*_, _<_, _≤_, _^_};
 ghost use lib.ListN.{length, replicate, take};
-ghost use Rattle.block.specs.Reading.{opening, wholeOf, byNumber, oneAt, Sure, kindsOf, Small, mostNumbers, vectorSize, vectorKinds, numbersAt, runsOf, partAt, startsWith, layoutOf, sizeStage, limitStage, vectorStage, stagesAt, readRecord, readWhole, got, into, StreamsStored, SizesStored};
+ghost use Rattle.block.specs.Reading.{opening, wholeOf, byNumber, oneAt, Sure, kindsOf, Small, mostNumbers, ownedSize, vectorKinds, numbersAt, runsOf, partAt, startsWith, layoutOf, sizeStage, limitStage, vectorStage, stagesAt, readRecord, readWhole, got, into, StreamsStored, SizesStored};
 
 // The number whose groups were read: unfolded where its kind is folded.
 fn whole(kind: Kind, n: u32) -> i32
@@ -141,25 +142,26 @@ fn read_part(
     Read::Ended(place)
 }
 
-// n vectors, stored from a place of the lent list on.
+// n vectors, each with so many owner numbers before it, stored from a place of the lent list on.
 fn read_vectors(
     bytes: &[u8],
     at: usize,
+    own: usize,
     m: usize,
     q: usize,
     n: usize,
     numbers: &mut [i32; MOST_NUMBERS],
     from: usize,
 ) -> Read
-    requires { ⌜ Small (Part.Vector m q) × (from + n * vectorSize m q ≤ mostNumbers) ⌝ }
-    ensures { λ r. ⌜ got r (now (numbers .exit)) ≡ into from (numbersAt (vectorKinds n m q) (now (bytes .entry)) at) (now (numbers .entry)) ⌝ }
+    requires { ⌜ Small (Part.Vector own m q) × (own ≤ 1) × (from + n * ownedSize own m q ≤ mostNumbers) ⌝ }
+    ensures { λ r. ⌜ got r (now (numbers .exit)) ≡ into from (numbersAt (vectorKinds n own m q) (now (bytes .entry)) at) (now (numbers .entry)) ⌝ }
 {
-    let size = vector_size(m, q);
+    let size = own + vector_size(m, q);
     let mut place = at;
     let mut to = from;
     let mut k = 0;
     while k < n {
-        match read_part(bytes, place, Part::Vector(m, q), numbers, to) {
+        match read_part(bytes, place, Part::Vector(own, m, q), numbers, to) {
             Read::Ended(next) => {
                 place = next;
                 to += size;
@@ -177,7 +179,7 @@ fn read_vectors(
 fn read_limited(bytes: &[u8], at: usize, layout: Layout, numbers: &mut [i32; MOST_NUMBERS]) -> Read
     requires { ⌜ SizesStored (now numbers) ⌝ }
     ensures { λ r. ⌜ got r (now (numbers .exit))
-        ≡ into 4 (stagesAt (limitStage layout ∷ vectorStage ∷ []) (take 4 (now (numbers .entry))) (now (bytes .entry)) at) (now (numbers .entry)) ⌝ }
+        ≡ into 4 (stagesAt (limitStage layout ∷ vectorStage layout ∷ []) (take 4 (now (numbers .entry))) (now (bytes .entry)) at) (now (numbers .entry)) ⌝ }
 {
     let m = numbers[0];
     let q = count_of(numbers[1]);
@@ -187,7 +189,8 @@ fn read_limited(bytes: &[u8], at: usize, layout: Layout, numbers: &mut [i32; MOS
     match read_part(bytes, at, Part::Limits(weak, m, c), numbers, 4) {
         Read::Ended(next) => {
             let first = header_size(layout);
-            read_vectors(bytes, next, count_of(m), q, n, numbers, first)
+            let own = own_count(layout);
+            read_vectors(bytes, next, own, count_of(m), q, n, numbers, first)
         }
         Read::Refused(refusal) => Read::Refused(refusal),
     }
@@ -197,7 +200,7 @@ fn read_limited(bytes: &[u8], at: usize, layout: Layout, numbers: &mut [i32; MOS
 fn read_sized(bytes: &[u8], at: usize, layout: Layout, numbers: &mut [i32; MOST_NUMBERS]) -> Read
     requires { ⌜ StreamsStored (now numbers) ⌝ }
     ensures { λ r. ⌜ got r (now (numbers .exit))
-        ≡ into 1 (stagesAt (sizeStage ∷ limitStage layout ∷ vectorStage ∷ []) (take 1 (now (numbers .entry))) (now (bytes .entry)) at) (now (numbers .entry)) ⌝ }
+        ≡ into 1 (stagesAt (sizeStage ∷ limitStage layout ∷ vectorStage layout ∷ []) (take 1 (now (numbers .entry))) (now (bytes .entry)) at) (now (numbers .entry)) ⌝ }
 {
     let m = numbers[0];
     match read_part(bytes, at, Part::Sizes(m), numbers, 1) {
@@ -228,6 +231,9 @@ fn has_opening(bytes: &[u8], layout: Layout) -> bool
 pub fn layout_of(bytes: &[u8]) -> Layout
     ensures { λ r. ⌜ r ≡ layoutOf (now (bytes .entry)) ⌝ }
 {
+    if has_opening(bytes, Layout::Owned) {
+        return Layout::Owned;
+    }
     if has_opening(bytes, Layout::Weakened) {
         return Layout::Weakened;
     }

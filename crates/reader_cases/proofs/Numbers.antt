@@ -19,13 +19,13 @@ raised (pos n) f = record { value = n + 2147483648; is = refl; small = omega (ar
 raised (negsuc n) f =
     record { value = 2147483648 - suc n; is = rw (le-ltb 2147483648 (suc n) (omega (arith, f .sfits))); small = omega arith }
 
--- The vectors have at most 3,072 whole numbers, a vector's priors being p; the parts of that sum
-pub record Sums (m n p : ℕ) : Type 0 where
+-- The vectors have at most 3,136 whole numbers, a vector's priors being p; the parts of that sum
+pub record Sums (own m n p : ℕ) : Type 0 where
   pub square : m * m ≤ 16
-  pub vectors : n * (m * m + 2 * m + p) ≤ 3072
+  pub vectors : n * (own + (m * m + 2 * m + p)) ≤ 3136
 
-pub sums : (m n p : ℕ) → m ≤ 4 → n ≤ 64 → p ≤ 24 → Sums m n p
-sums m n p h k l =
+pub sums : (own m n p : ℕ) → own ≤ 1 → m ≤ 4 → n ≤ 64 → p ≤ 24 → Sums own m n p
+sums own m n p few h k l =
     let square : m * m ≤ 16 = mul-le-mul h h in
-    let vector : m * m + 2 * m + p ≤ 48 = omega arith in
+    let vector : own + (m * m + 2 * m + p) ≤ 49 = omega arith in
     record { square = square; vectors = mul-le-mul k vector }

@@ -14,13 +14,17 @@ sizeAt numbers i most = min (natAbs (getD numbers i (pos 0))) most
 abbrev pub vectorCount : ℕ → ℕ → ℕ
 vectorCount m q = m * m + 2 * m + min (m * q) 24
 
--- How many stand before the first: M, Q, N, C and D, and W where the opening ends in 32
-abbrev pub headerCount : List ℕ → ℕ
-headerCount bytes = cond (eqb (getD bytes 3 0) 0x32) 6 5
+-- How many stand before the first, by the opening's last byte: M, Q, N, C and D, and W where it is 32 or 33
+abbrev pub headerCount : ℕ → ℕ
+headerCount last = cond (eqb last 0x32) 6 (cond (eqb last 0x33) 6 5)
 
--- How many a record has: these, and those of N vectors
-abbrev pub countOf : ℕ → List ℤ → ℕ
-countOf header numbers = header + sizeAt numbers 2 64 * vectorCount (sizeAt numbers 0 4) (sizeAt numbers 1 8)
+-- How many stand before each: its owner's, where it is 33
+abbrev pub ownerCount : ℕ → ℕ
+ownerCount last = cond (eqb last 0x33) 1 0
+
+-- How many a record has: the first ones, and those of N vectors, each with so many before it
+abbrev pub countOf : ℕ → ℕ → List ℤ → ℕ
+countOf header own numbers = header + sizeAt numbers 2 64 * (own + vectorCount (sizeAt numbers 0 4) (sizeAt numbers 1 8))
 
 -- A number moved up by 2 to the 31
 abbrev pub moved : ℤ → ℕ

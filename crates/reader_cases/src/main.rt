@@ -9,9 +9,9 @@ use libc::STDOUT_FILENO;
 ghost use mathlib.Core.Path.{_≡_};
 ghost use Prim.Native.Nat.{_<_, _≤_, min};
 ghost use lib.IntN.{natAbs};
-ghost use lib.ListN.{length};
+ghost use lib.ListN.{length, getD};
 ghost use Rattle.block.specs.Reading.{mostNumbers};
-ghost use Rattle.reader_cases.specs.Numbers.{headerCount, countOf, moved, mixed, checksumOf};
+ghost use Rattle.reader_cases.specs.Numbers.{headerCount, ownerCount, countOf, moved, mixed, checksumOf};
 
 fn smaller(a: usize, b: usize) -> usize
     ensures { λ r. ⌜ r ≡ min a b ⌝ }
@@ -27,29 +27,49 @@ fn size(z: i32, most: usize) -> usize
     smaller(integers::magnitude(z as i64) as usize, most)
 }
 
-// How many whole numbers stand before the first vector: one more, W, with the opening that ends in 32.
-fn header(record: &[u8]) -> usize
-    ensures { λ r. ⌜ (r ≡ headerCount (now («record» .entry))) × (r ≤ 6) ⌝ }
+// The last byte of a record's opening, and 0 where there is none.
+fn last_byte(record: &[u8]) -> u8
+    ensures { λ r. ⌜ r ≡ getD (now («record» .entry)) 3 0 ⌝ }
 {
     if record.len() < 4 {
-        return 5;
+        return 0;
     }
-    if record[3] == 0x32 {
+    record[3]
+}
+
+// How many whole numbers stand before the first vector: one more, W, with an opening that ends in 32 or 33.
+fn header(last: u8) -> usize
+    ensures { λ r. ⌜ (r ≡ headerCount last) × (r ≤ 6) ⌝ }
+{
+    if last == 0x32 {
+        return 6;
+    }
+    if last == 0x33 {
         return 6;
     }
     5
 }
 
+// How many stand before each vector: its owner's, with the opening that ends in 33.
+fn owners(last: u8) -> usize
+    ensures { λ r. ⌜ (r ≡ ownerCount last) × (r ≤ 1) ⌝ }
+{
+    if last == 0x33 {
+        return 1;
+    }
+    0
+}
+
 // How many whole numbers a record has, by these and its M, Q and N. A vector's priors are at most 24: Q = 8 is with up to three streams.
-fn count(header: usize, numbers: &[i32; MOST_NUMBERS]) -> usize
-    requires { ⌜ header ≤ 6 ⌝ }
-    ensures { λ r. ⌜ (r ≡ countOf header (now (numbers .entry))) × (r ≤ mostNumbers) ⌝ }
+fn count(header: usize, own: usize, numbers: &[i32; MOST_NUMBERS]) -> usize
+    requires { ⌜ (header ≤ 6) × (own ≤ 1) ⌝ }
+    ensures { λ r. ⌜ (r ≡ countOf header own (now (numbers .entry))) × (r ≤ mostNumbers) ⌝ }
 {
     let m = size(numbers[0], 4);
     let q = size(numbers[1], 8);
     let n = size(numbers[2], 64);
     let priors = smaller(m * q, 24);
-    header + n * (m * m + 2 * m + priors)
+    header + n * (own + (m * m + 2 * m + priors))
 }
 
 // A whole number moved up by 2 to the 31, so that it is not negative.
@@ -103,7 +123,8 @@ fn run(record: &[u8], numbers: &mut [i32; MOST_NUMBERS])
 {
     match reader::read_whole(record, numbers) {
         Read::Ended(_) => {
-            let n = count(header(record), numbers);
+            let last = last_byte(record);
+            let n = count(header(last), owners(last), numbers);
             print_accepted(n, checksum(numbers, n));
         }
         Read::Refused(refusal) => print_refused(refusals::refusal_number(refusal)),

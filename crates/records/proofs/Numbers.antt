@@ -6,13 +6,13 @@ use native.Mathlib.Omega.{arith}
 use lib.IntN.{ℤ, pos, negsuc, negℤ, natAbs}
 use lib.Signed.{leZ}
 use borrow.Author.Tests.{leb-true}
-use Rattle.model.specs.Block.{mostStreams, mostVectors, mostClip, mostShare, mostEntry, mostReceived, mostPrior}
+use Rattle.model.specs.Block.{mostStreams, mostVectors, mostClip, mostShare, mostEntry, mostReceived, mostPrior, mostOwner}
 use Rattle.wire.specs.Folding.{folded}
 use Rattle.wire.proofs.RoundTrip.{unfolded-folded}
 use Rattle.refusals.specs.Table.{between, allowed}
 use Rattle.block.specs.Reading.{wholeOf}
 use Rattle.refusals.specs.declared.Kind.{Kind}
-use Rattle.refusals.specs.declared.Kind.the-variants.{StreamCount, SymbolWidth, VectorCount, ClipLevel, WeakLevel, NodeShare}
+use Rattle.refusals.specs.declared.Kind.the-variants.{StreamCount, SymbolWidth, VectorCount, ClipLevel, WeakLevel, NodeShare, OwnerNumber}
 use Rattle.refusals.specs.declared.Kind.the-variants.{DiagonalEntry, RightPart, ReceivedPart, BitPrior}
 use Rattle.refusals.proofs.Tests.{and-right}
 use Rattle.block.proofs.Ranges.{between-plain, between-signed, allowed-width}
@@ -64,6 +64,7 @@ written VectorCount z g e = record { small = plain-small 1 mostVectors z (omega 
 written ClipLevel z g e = record { small = plain-small 0 mostClip z (omega arith) e; back = plain-back 0 mostClip z (omega arith) e }
 written (WeakLevel c) z g e = let p = to-plain c z mostClip g e in record { small = omega arith; back = p .1 }
 written (NodeShare m) z g e = let p = from-plain m z mostShare g e in record { small = omega arith; back = p .1 }
+written OwnerNumber z g e = record { small = plain-small 1 mostOwner z (omega arith) e; back = plain-back 1 mostOwner z (omega arith) e }
 written DiagonalEntry z g e = record { small = plain-small 1 mostEntry z (omega arith) e; back = plain-back 1 mostEntry z (omega arith) e }
 written RightPart z g e = record { small = folded-small mostEntry z (omega arith) e; back = unfolded-folded z }
 written ReceivedPart z g e = record { small = folded-small mostReceived z (omega arith) e; back = unfolded-folded z }

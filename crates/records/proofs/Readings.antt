@@ -12,8 +12,8 @@ use Rattle.block.specs.Reading.{readRecord, readWhole}
 use Rattle.block.specs.Conditions.{calledBy}
 use Rattle.refusals.specs.Filling.{Filling, refused, filled, fitted}
 use Rattle.refusals.specs.declared.Refusal.the-variants.{Opening, Ends, Malformed, Streams, Width, Vectors, Clip, Share, Diagonal}
-use Rattle.refusals.specs.declared.Refusal.the-variants.{Entry, Received, Prior, Trailing, Buffer, Crowded, Weak}
-use Rattle.block.proofs.Readings.{listingRecord, weakenedRecord}
+use Rattle.refusals.specs.declared.Refusal.the-variants.{Entry, Received, Prior, Trailing, Buffer, Crowded, Weak, Owner}
+use Rattle.block.proofs.Readings.{listingRecord, weakenedRecord, ownedRecord}
 use Rattle.records.specs.Writing.{checked, bytesFor, recordOf, writingIn, toldBy, writing, reading}
 
 -- "That vector twice, C = 10, D = 3": R rows (1, 1), (0, 1), y = (1, -1), priors 0
@@ -30,6 +30,13 @@ one = pos 1 ∷ pos 1 ∷ pos 1 ∷ pos 5 ∷ pos 2 ∷ pos 1 ∷ pos 2 ∷ pos 
 -- The pair's vector once, with C = 10, W = 7 and D = 4
 abbrev weakened : List ℤ
 weakened = pos 2 ∷ pos 1 ∷ pos 1 ∷ pos 10 ∷ pos 7 ∷ pos 4 ∷ vector
+
+-- One stream of one bit of owner 4: C = 5, W = 3, D = 1, R = 1, y = 2, prior 10
+abbrev limits : List ℤ
+limits = pos 1 ∷ pos 1 ∷ pos 1 ∷ pos 5 ∷ pos 3 ∷ pos 1 ∷ []
+
+abbrev owned : List ℤ
+owned = limits ++ pos 4 ∷ pos 1 ∷ pos 2 ∷ pos 0 ∷ pos 10 ∷ []
 
 -- The number that tells the opening, a list, the bytes that are lent, and what the call comes to
 pub record Writing : Type 0 where
@@ -83,9 +90,18 @@ lists =
     ∷ tell 2 (pos 1 ∷ pos 1 ∷ pos 1 ∷ pos 5 ∷ negsuc 0 ∷ pos 0 ∷ []) 0 (refused Weak)
     ∷ tell 2 (pos 1 ∷ pos 1 ∷ pos 1 ∷ pos 0 ∷ pos 0 ∷ pos 0 ∷ []) 0 (refused Share)
     ∷ tell 2 (pos 1 ∷ pos 1 ∷ pos 1 ∷ pos 16777216 ∷ pos 16777217 ∷ []) 0 (refused Clip)
+    -- owners: one before each vector, plain, 17 before that vector's R
+    ∷ tell 3 owned 15 (filled ownedRecord)
+    ∷ tell 3 owned 14 (refused Buffer)
+    ∷ tell 3 limits 0 (refused Ends)
+    ∷ tell 3 (limits ++ pos 0 ∷ pos 0 ∷ []) 0 (refused Owner)
+    ∷ tell 3 (limits ++ pos 5 ∷ pos 0 ∷ []) 0 (refused Owner)
+    ∷ tell 3 (limits ++ negsuc 0 ∷ []) 0 (refused Owner)
+    ∷ tell 3 (limits ++ pos 4 ∷ pos 0 ∷ []) 0 (refused Diagonal)
+    ∷ tell 2 owned 15 (refused Trailing)
     -- an unknown one, whatever the list and the buffer are
     ∷ tell 0 listing 29 (refused Opening)
-    ∷ tell 3 [] 0 (refused Opening)
+    ∷ tell 4 [] 0 (refused Opening)
     ∷ tell 4294967295 (pos 5 ∷ []) 0 (refused Opening)
     ∷ []
 
@@ -96,7 +112,9 @@ records =
     ∷ read (listingRecord ++ 0x00 ∷ []) 24 (refused Trailing)
     ∷ read (0x43 ∷ 0x42 ∷ 0x52 ∷ 0x31 ∷ 0x04 ∷ 0x08 ∷ []) 0 (refused Crowded)
     ∷ read weakenedRecord 16 (filled weakened)
-    ∷ read (0x43 ∷ 0x42 ∷ 0x52 ∷ 0x33 ∷ 0x04 ∷ 0x08 ∷ []) 0 (refused Opening)
+    ∷ read ownedRecord 11 (filled owned)
+    ∷ read ownedRecord 10 (refused Buffer)
+    ∷ read (0x43 ∷ 0x42 ∷ 0x52 ∷ 0x34 ∷ 0x04 ∷ 0x08 ∷ []) 0 (refused Opening)
     -- a last group of 0 behind another, before W's range
     ∷ read (0x43 ∷ 0x42 ∷ 0x52 ∷ 0x32 ∷ 0x01 ∷ 0x01 ∷ 0x01 ∷ 0x05 ∷ 0x85 ∷ 0x00 ∷ []) 0 (refused Malformed)
     ∷ []

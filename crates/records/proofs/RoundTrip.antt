@@ -21,7 +21,7 @@ use Rattle.block.specs.Conditions.{calledFor}
 use Rattle.refusals.specs.Filling.{filled}
 use Rattle.refusals.specs.declared.Kind.{Kind}
 use Rattle.block.specs.declared.Layout.{Layout}
-use Rattle.block.specs.declared.Layout.the-variants.{Base, Weakened}
+use Rattle.block.specs.declared.Layout.the-variants.{Base, Weakened, Owned}
 use Rattle.block.specs.declared.Read.{Read}
 use Rattle.block.specs.declared.Read.the-variants.{Ended, Refused}
 use Rattle.block.proofs.Reading.{numbers-taken, first-read}
@@ -154,18 +154,20 @@ told-number : (o : Layout) → toldBy (openingNumber o) ≡ Known o
 unfolding toldBy
 told-number Base = refl
 told-number Weakened = refl
+told-number Owned = refl
 
 told-only : (told : ℕ) (o : Layout) → toldBy told ≡ Known o → openingNumber o ≡ told
 unfolding toldBy
-told-only told o e = first (eqb told 1) refl e
+told-only told o e = test Base _ (test Weakened _ (test Owned Unknown (λ g. let z : _≡_ {A = ℕ} 0 1 = cc in absurd (omega arith)))) e
   where
-    second : (b : Bool) → eqb told 2 ≡ b → cond b (Known Weakened) Unknown ≡ Known o → openingNumber o ≡ told
-    second true f g = let same : Weakened ≡ o = cc in ap openingNumber (sym same) ∙ sym (eqb-true told 2 f)
-    second false f g = let z : _≡_ {A = ℕ} 0 1 = cc in absurd (omega arith)
-
-    first : (b : Bool) → eqb told 1 ≡ b → cond b (Known Base) (cond (eqb told 2) (Known Weakened) Unknown) ≡ Known o → openingNumber o ≡ told
-    first true f g = let same : Base ≡ o = cc in ap openingNumber (sym same) ∙ sym (eqb-true told 1 f)
-    first false f g = second (eqb told 2) refl g
+    -- A test for one opening, and what is told where it fails
+    test : (x : Layout) (other : Told) → (other ≡ Known o → openingNumber o ≡ told)
+        → cond (eqb told (openingNumber x)) (Known x) other ≡ Known o → openingNumber o ≡ told
+    test x other further = go (eqb told (openingNumber x)) refl
+      where
+        go : (b : Bool) → eqb told (openingNumber x) ≡ b → cond b (Known x) other ≡ Known o → openingNumber o ≡ told
+        go true f g = let same : x ≡ o = cc in ap openingNumber (sym same) ∙ sym (eqb-true told (openingNumber x) f)
+        go false f g = further g
 
 -- A list that is accepted is told a layout by its number and passed, and what is written is its record in that layout
 pub record Accepted (told : ℕ) (numbers : List ℤ) (bytes : List ℕ) : Type 0 where

@@ -1,5 +1,5 @@
 -- What the steps of writing and reading ask and give.
-use Prim.Native.Nat.{ℕ, _+_, _*_, _≤_, _<_}
+use Prim.Native.Nat.{ℕ, _*_, _≤_, _<_}
 use mathlib.Core.Path.{_≡_}
 use mathlib.Core.Bool.{true}
 use mathlib.Core.List.{List}
@@ -8,7 +8,8 @@ use lib.ListN.{length, getD}
 use lib.IntN.{ℤ, pos}
 use Rattle.model.specs.Block.{mostStreams, mostWidth, mostBits, mostVectors}
 use Rattle.refusals.specs.Table.{allowed}
-use Rattle.block.specs.Reading.{headerSize, countAt, mostNumbers, vectorSize}
+use Rattle.block.specs.Reading.{headerSize, countAt, mostNumbers}
+use Rattle.block.specs.Contents.{vectorStart}
 use Rattle.block.specs.Conditions.{calledFor}
 use Rattle.refusals.specs.declared.Kind.{Kind}
 use Rattle.refusals.specs.declared.Kind.the-variants.{StreamCount}
@@ -40,9 +41,9 @@ pub record Sized (layout : Layout) (numbers : List ℤ) : Type 0 where
   pub label : countAt 0 numbers * countAt 1 numbers ≤ mostBits
   pub vectors : countAt 2 numbers ≤ mostVectors
 
--- The numbers of a record by its own M, Q and N
+-- The numbers of a record by its own M, Q and N: all before where vector N would begin, from 0
 abbrev pub numberCount : Layout → List ℤ → ℕ
-numberCount layout numbers = headerSize layout + countAt 2 numbers * vectorSize (countAt 0 numbers) (countAt 1 numbers)
+numberCount layout numbers = vectorStart layout numbers (countAt 2 numbers)
 
 -- A bound tells of a place, as what the list calls for does, whether a number is called for there; it is no more than any record has
 pub record Called (layout : Layout) (numbers : List ℤ) (i end : ℕ) : Type 0 where

@@ -1,4 +1,4 @@
--- Document 02, Points 2 and 4: "a list of the record's whole numbers, unfolded, in; record bytes out", and the way back. "The writer is now
+-- Document 02, Points 2, 4 and 7: "a list of the record's whole numbers, unfolded, in; record bytes out", and the way back. "The writer is now
 -- told the opening (1 if unknown)".
 use Prim.Native.Nat.{ℕ}
 use mathlib.Core.Bool.{cond}
@@ -14,7 +14,7 @@ use Rattle.refusals.specs.Filling.{Filling, refused, fitted}
 use Rattle.refusals.specs.declared.Kind.{Kind}
 use Rattle.refusals.specs.declared.Refusal.{Refusal}
 use Rattle.block.specs.declared.Layout.{Layout}
-use Rattle.block.specs.declared.Layout.the-variants.{Base, Weakened}
+use Rattle.block.specs.declared.Layout.the-variants.{Base, Weakened, Owned}
 use Rattle.refusals.specs.declared.Refusal.the-variants.{Opening, Ends, Trailing}
 use Rattle.block.specs.declared.Read.{Read}
 use Rattle.block.specs.declared.Read.the-variants.{Ended, Refused}
@@ -26,8 +26,8 @@ pub data Verdict : Type 0 where
   fine : Verdict
   turned : Refusal → Verdict
 
--- A list's numbers, one after the other, against the kinds that are called for: "4 to 12 and 15", with Point 4's 16, "in record order, 2
--- where the list ends early, 13 where it goes on". The first check that fails decides
+-- A list's numbers, one after the other, against the kinds that are called for: "4 to 12 and 15", with Points 4 and 7's 16 and 17, "in record
+-- order, 2 where the list ends early, 13 where it goes on". The first check that fails decides
 unfoldable pub checked : List Kind → List ℤ → Verdict
 checked [] [] = fine
 checked [] (z ∷ zs) = turned Trailing
@@ -61,10 +61,13 @@ writingIn layout numbers room = byVerdict room (recordOf layout numbers) (checke
 abbrev pub openingNumber : Layout → ℕ
 openingNumber Base = 1
 openingNumber Weakened = 2
+openingNumber Owned = 3
 
 -- The layout that a number tells
 unfoldable pub toldBy : ℕ → Told
-toldBy number = cond (eqb number (openingNumber Base)) (Known Base) (cond (eqb number (openingNumber Weakened)) (Known Weakened) Unknown)
+toldBy number =
+    cond (eqb number (openingNumber Base)) (Known Base)
+    (cond (eqb number (openingNumber Weakened)) (Known Weakened) (cond (eqb number (openingNumber Owned)) (Known Owned) Unknown))
 
 -- "(1 if unknown)", whatever the list and the buffer are
 abbrev pub byTold : List ℤ → ℕ → Told → Filling ℕ

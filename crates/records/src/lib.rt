@@ -1,16 +1,17 @@
-// Block records and their whole numbers, both ways (document 02, Points 2 and 4): the writer and the reader, exported for C.
+// Block records and their whole numbers, both ways (document 02, Points 2, 4 and 7): the writer and the reader, exported for C.
 use block::Layout;
 use block::Read;
 use refusals::Kind;
 use refusals::Refusal;
 ghost use mathlib.Core.Path.{_≡_};
 ghost use Prim.Native.Nat.{_*_, _%_, _<_, _≤_};
+ghost use Rattle.block.specs.declared.Part.the-variants.{Vector};
 ghost use lib.IntN.{pos};
 ghost use lib.ListN.{length, getD, take};
 ghost use lib.Seq.{sets};
 ghost use Rattle.model.specs.Block.{mostStreams, mostWidth, mostBits};
 ghost use Rattle.wire.specs.Writing.{put};
-ghost use Rattle.block.specs.Reading.{headerSize, kindsOf, matrixRuns, mostNumbers, kindsOfVector, vectorSize};
+ghost use Rattle.block.specs.Reading.{headerSize, kindsOf, matrixRuns, mostNumbers, partKinds, kindsOfVector, vectorSize, ownedSize};
 ghost use Rattle.block.specs.Contents.{headerKinds};
 ghost use Rattle.block.specs.Conditions.{calledFor};
 ghost use Rattle.refusals.specs.declared.Kind.the-variants.{StreamCount};
@@ -61,12 +62,11 @@ fn matrix_kind(m: usize, j: usize) -> Kind
     Kind::RightPart
 }
 
-// The kind of number i of the vectors, all of which have the same.
-fn vector_kind(m: usize, q: usize, i: usize) -> Kind
-    requires { ⌜ (1 ≤ m) × (m ≤ mostStreams) × (q ≤ mostWidth) × (m * q ≤ mostBits) ⌝ }
-    ensures { λ r. ⌜ r ≡ getD (kindsOfVector m q) (i % vectorSize m q) StreamCount ⌝ }
+// The kind of number j of a vector, behind its owner's.
+fn vector_kind(m: usize, q: usize, j: usize) -> Kind
+    requires { ⌜ (m ≤ mostStreams) × (q ≤ mostWidth) × (j < vectorSize m q) ⌝ }
+    ensures { λ r. ⌜ r ≡ getD (kindsOfVector m q) j StreamCount ⌝ }
 {
-    let j = i % block::vector_size(m, q);
     if j < m * m {
         return matrix_kind(m, j);
     }
@@ -74,6 +74,18 @@ fn vector_kind(m: usize, q: usize, i: usize) -> Kind
         return Kind::ReceivedPart;
     }
     Kind::BitPrior
+}
+
+// The kind of number i of the vectors, each with so many owner numbers before it. All of them have the same.
+fn owned_kind(own: usize, m: usize, q: usize, i: usize) -> Kind
+    requires { ⌜ (own ≤ 1) × (1 ≤ m) × (m ≤ mostStreams) × (q ≤ mostWidth) × (m * q ≤ mostBits) ⌝ }
+    ensures { λ r. ⌜ r ≡ getD (partKinds (Vector own m q)) (i % ownedSize own m q) StreamCount ⌝ }
+{
+    let j = i % (own + block::vector_size(m, q));
+    if j < own {
+        return Kind::OwnerNumber;
+    }
+    vector_kind(m, q, j - own)
 }
 
 // The kind that a list calls for at a place, once the numbers before it are in their ranges.
@@ -87,7 +99,7 @@ fn kind_at(layout: Layout, numbers: &[i32], i: usize) -> Kind
     }
     let m = block::count_at(numbers, 0) as usize;
     let q = block::count_at(numbers, 1) as usize;
-    vector_kind(m, q, i - header)
+    owned_kind(block::own_count(layout), m, q, i - header)
 }
 
 // How many numbers a record has, by the M, Q and N in front of a list.
@@ -98,7 +110,7 @@ fn number_count(layout: Layout, numbers: &[i32]) -> usize
     let m = block::count_at(numbers, 0) as usize;
     let q = block::count_at(numbers, 1) as usize;
     let n = block::count_at(numbers, 2) as usize;
-    block::header_size(layout) + n * block::vector_size(m, q)
+    block::vector_start(layout, m, q, n)
 }
 
 // How many numbers a list calls for, as far as its first i tell, all of which are in their ranges.
@@ -190,6 +202,9 @@ fn told_by(opening: u32) -> Told
     }
     if opening == 2 {
         return Told::Known(Layout::Weakened);
+    }
+    if opening == 3 {
+        return Told::Known(Layout::Owned);
     }
     Told::Unknown
 }

@@ -1,5 +1,5 @@
 -- Computed readings, as one theorem: each range at its ends and next to them, from document 01's "The record" and its table, and document
--- 02's widths, 15 and 16.
+-- 02's widths, 15, 16 and 17.
 use Prim.Native.Nat.{ℕ}
 use mathlib.Core.Path.{_≡_, refl}
 use mathlib.Core.Bool.{cond}
@@ -7,7 +7,7 @@ use mathlib.Core.List.{List, [], _∷_, map}
 use lib.IntN.{ℤ, pos, negsuc}
 use Rattle.refusals.specs.Table.{refusalNumber, allowed, refusalOf}
 use Rattle.refusals.specs.declared.Kind.{Kind}
-use Rattle.refusals.specs.declared.Kind.the-variants.{StreamCount, SymbolWidth, VectorCount, ClipLevel, WeakLevel, NodeShare}
+use Rattle.refusals.specs.declared.Kind.the-variants.{StreamCount, SymbolWidth, VectorCount, ClipLevel, WeakLevel, NodeShare, OwnerNumber}
 use Rattle.refusals.specs.declared.Kind.the-variants.{DiagonalEntry, RightPart, ReceivedPart, BitPrior}
 
 -- A number of a kind, and the number that it is refused by, 0 where it is taken
@@ -41,6 +41,11 @@ rows =
     ∷ row (NodeShare (pos 3)) (pos 3) 0
     ∷ row (NodeShare (pos 3)) (pos 17043520) 0
     ∷ row (NodeShare (pos 3)) (pos 17043521) 8
+    ∷ row OwnerNumber (negsuc 0) 17
+    ∷ row OwnerNumber (pos 0) 17
+    ∷ row OwnerNumber (pos 1) 0
+    ∷ row OwnerNumber (pos 4) 0
+    ∷ row OwnerNumber (pos 5) 17
     ∷ row DiagonalEntry (pos 0) 9
     ∷ row DiagonalEntry (pos 1) 0
     ∷ row DiagonalEntry (pos 2047) 0

@@ -1,15 +1,15 @@
--- Document 01, "Where a record is turned back", and Points 1 and 4 of document 02: the kinds of number in a record with their ranges, and the
+-- Document 01, "Where a record is turned back", and Points 1, 4 and 7 of document 02: the kinds of number in a record with their ranges, and the
 -- refusals with their numbers.
 use Prim.Native.Nat.{ℕ}
 use mathlib.Core.Bool.{Bool, true, false, cond, not, _&&_, _||_}
 use mathlib.Core.List.{List, [], _∷_}
 use lib.IntN.{ℤ, pos, negℤ}
 use lib.Signed.{leZ}
-use Rattle.model.specs.Block.{mostStreams, mostVectors, mostClip, mostShare, mostEntry, mostReceived, mostPrior, widths}
+use Rattle.model.specs.Block.{mostStreams, mostVectors, mostClip, mostShare, mostEntry, mostReceived, mostPrior, mostOwner, widths}
 use Rattle.refusals.specs.declared.Kind.{Kind}
-use Rattle.refusals.specs.declared.Kind.the-variants.{StreamCount, SymbolWidth, VectorCount, ClipLevel, WeakLevel, NodeShare, DiagonalEntry, RightPart, ReceivedPart, BitPrior}
+use Rattle.refusals.specs.declared.Kind.the-variants.{StreamCount, SymbolWidth, VectorCount, ClipLevel, WeakLevel, NodeShare, OwnerNumber, DiagonalEntry, RightPart, ReceivedPart, BitPrior}
 use Rattle.refusals.specs.declared.Refusal.{Refusal}
-use Rattle.refusals.specs.declared.Refusal.the-variants.{Opening, Ends, Malformed, Streams, Width, Vectors, Clip, Share, Diagonal, Entry, Received, Prior, Trailing, Buffer, Crowded, Weak}
+use Rattle.refusals.specs.declared.Refusal.the-variants.{Opening, Ends, Malformed, Streams, Width, Vectors, Clip, Share, Diagonal, Entry, Received, Prior, Trailing, Buffer, Crowded, Weak, Owner}
 
 -- The column "Number"
 abbrev pub refusalNumber : Refusal → ℕ
@@ -29,6 +29,7 @@ refusalNumber Trailing = 13
 refusalNumber Buffer = 14
 refusalNumber Crowded = 15
 refusalNumber Weak = 16
+refusalNumber Owner = 17
 
 -- From one number to another
 abbrev pub between : ℤ → ℤ → ℤ → Bool
@@ -51,6 +52,7 @@ allowed VectorCount z = between (pos 1) (pos mostVectors) z
 allowed ClipLevel z = between (pos 0) (pos mostClip) z
 allowed (WeakLevel c) z = between (pos 0) c z
 allowed (NodeShare m) z = between m (pos mostShare) z
+allowed OwnerNumber z = between (pos 1) (pos mostOwner) z
 allowed DiagonalEntry z = between (pos 1) (pos mostEntry) z
 allowed RightPart z = between (negℤ (pos mostEntry)) (pos mostEntry) z
 allowed ReceivedPart z = between (negℤ (pos mostReceived)) (pos mostReceived) z
@@ -64,12 +66,13 @@ refusalOf VectorCount z = Vectors
 refusalOf ClipLevel z = Clip
 refusalOf (WeakLevel c) z = Weak
 refusalOf (NodeShare m) z = Share
+refusalOf OwnerNumber z = Owner
 refusalOf DiagonalEntry z = Diagonal
 refusalOf RightPart z = Entry
 refusalOf ReceivedPart z = Received
 refusalOf BitPrior z = Prior
 
--- The header and the diagonal are plain, all other numbers folded
+-- The header, the owners and the diagonal are plain, all other numbers folded
 abbrev pub isFolded : Kind → Bool
 isFolded StreamCount = false
 isFolded (SymbolWidth m) = false
@@ -77,6 +80,7 @@ isFolded VectorCount = false
 isFolded ClipLevel = false
 isFolded (WeakLevel c) = false
 isFolded (NodeShare m) = false
+isFolded OwnerNumber = false
 isFolded DiagonalEntry = false
 isFolded RightPart = true
 isFolded ReceivedPart = true

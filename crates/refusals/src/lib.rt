@@ -1,5 +1,5 @@
 // The kinds of number in a record with the range of each, and the refusals with their numbers: document 01, "Where a record is turned back",
-// with document 02's 15 and 16. The rule for calls that fill lent memory is among the definitions.
+// with document 02's 15 to 17. The rule for calls that fill lent memory is among the definitions.
 ghost use mathlib.Core.Path.{_≡_};
 ghost use lib.IntN.{pos, negℤ};
 ghost use Rattle.refusals.specs.Table.{refusalNumber, refusalOf, between, oneOf, crowded, allowed, isFolded};
@@ -25,6 +25,8 @@ pub enum Refusal {
     Crowded,
     // W
     Weak,
+    // an owner number
+    Owner,
 }
 
 // The kinds of number in a record, each with a range of its own; the symbol width's depends on M, W's ends at C, the share's begins at M.
@@ -35,6 +37,7 @@ pub enum Kind {
     ClipLevel,
     WeakLevel(i32),
     NodeShare(i32),
+    OwnerNumber,
     DiagonalEntry,
     RightPart,
     ReceivedPart,
@@ -90,6 +93,7 @@ pub fn allowed(kind: Kind, z: i32) -> bool
         Kind::ClipLevel => between(z, 0, 16777215),
         Kind::WeakLevel(c) => between(z, 0, c),
         Kind::NodeShare(m) => between(z, m, 17043520),
+        Kind::OwnerNumber => between(z, 1, 4),
         Kind::DiagonalEntry => between(z, 1, 2047),
         Kind::RightPart => between(z, -2047, 2047),
         Kind::ReceivedPart => between(z, -131071, 131071),
@@ -110,6 +114,7 @@ pub fn is_folded(kind: Kind) -> bool
         Kind::ClipLevel => false,
         Kind::WeakLevel(_) => false,
         Kind::NodeShare(_) => false,
+        Kind::OwnerNumber => false,
         Kind::DiagonalEntry => false,
     }
 }
@@ -131,6 +136,7 @@ pub fn refusal_of(kind: Kind, z: i32) -> Refusal
         Kind::ClipLevel => Refusal::Clip,
         Kind::WeakLevel(_) => Refusal::Weak,
         Kind::NodeShare(_) => Refusal::Share,
+        Kind::OwnerNumber => Refusal::Owner,
         Kind::DiagonalEntry => Refusal::Diagonal,
         Kind::RightPart => Refusal::Entry,
         Kind::ReceivedPart => Refusal::Received,
@@ -159,6 +165,7 @@ pub fn refusal_number(refusal: Refusal) -> u32
         Refusal::Buffer => 14,
         Refusal::Crowded => 15,
         Refusal::Weak => 16,
+        Refusal::Owner => 17,
     }
 }
 

@@ -1,5 +1,5 @@
 -- A reply read back says the block's M, Q and N and its answers, to the reply's end.
-use Prim.Native.Nat.{ℕ, suc, _+_, _*_}
+use Prim.Native.Nat.{ℕ, _+_, _*_}
 use mathlib.Core.Path.{_≡_, refl, sym, _∙_, ap, ap₂}
 use mathlib.Core.Bool.{Bool, true, false}
 use mathlib.Core.List.{List, [], _∷_, _++_, map, append-assoc, append-nil}
@@ -9,14 +9,15 @@ use lib.Dec.{eqb}
 use lib.IntN.{ℤ}
 use lib.ListN.{length, drop, length-append, length-map}
 use lib.Seq.{drop-drop, drop-append-seam, take-at, drop-at}
-use Rattle.model.specs.Metric.{Row}
-use Rattle.model.specs.Block.{Block, vectorOf, Answer, allowance, answersFrom, answers, Every, VectorInRange, InRange}
+use Rattle.model.specs.Block.{Block, vectorOf, Answer, Every, InRange}
+use Rattle.owners.specs.Owners.{sharedAnswers}
+use Rattle.owners.proofs.Owners.{answers-many}
 use Rattle.wire.specs.Writing.{bytesOf}
 use Rattle.wire.specs.Folding.{folded, unfolded}
 use Rattle.wire.proofs.RoundTrip.{unfolded-folded, read-at}
 use Rattle.replies.specs.Reply.{replyOpening, markOf, answerNumbers, answersNumbers, replyNumbers, written, replyOf}
 use Rattle.replies.specs.ReadBack.{Plain, plainAt, answerFrom, answersIn, readSizes, readBack, saying}
-use Rattle.replies.proofs.Replies.{Short, written-append, soft-count, bits-are, reply-short}
+use Rattle.replies.proofs.Replies.{Short, written-append, soft-count, bits-are, OfVector, of-vectors, reply-short}
 
 -- Numbers that are written at a place are read there
 plain-read : (ns : List ℕ) → Every Short ns → (l : List ℕ) (at : ℕ) (rest : List ℕ) → drop at l ≡ written ns ++ rest
@@ -78,27 +79,21 @@ module _ (bits : ℕ) where
       )
 
 module _ (b : Block) where
-  -- The answers of vectors in range: as many as these, with a soft value for each bit
-  answers-many : (vs : List (List Row)) (spent : ℕ) → length (answersFrom b spent vs) ≡ length vs
-  unfolding answersFrom
-  answers-many [] spent = refl
-  answers-many (rows ∷ later) spent = ap suc (answers-many later _)
-
-  answers-bits : (vs : List (List Row)) → Every (VectorInRange (b .streams) (b .width)) vs → (spent : ℕ)
-      → Every (Bits (b .streams * b .width)) (answersFrom b spent vs)
-  unfolding answersFrom
-  answers-bits [] h spent = tt
-  answers-bits (rows ∷ later) h spent =
-      (soft-count (vectorOf b rows) (b .weak) (allowance b spent (length later)) ∙ bits-are b (h .0), answers-bits later (h .1) _)
+  -- The answers of vectors in range have a soft value for each bit
+  answers-bits : (found : List Answer) → Every (OfVector b) found → Every (Bits (b .streams * b .width)) found
+  answers-bits [] h = tt
+  answers-bits (a ∷ rest) h =
+      let v = h .0 in
+      (ap (λ (x : Answer). length (x .result .soft)) (sym (v .is)) ∙ soft-count (vectorOf b (v .rows)) (b .weak) (v .allowed) ∙ bits-are b (v .vector), answers-bits rest (h .1))
 
   -- What the reply of a block in range says
-  pub read-back : InRange b → readBack (replyOf b) ≡ saying b (answers b) (length (replyOf b))
+  pub read-back : InRange b → readBack (replyOf b) ≡ saying b (sharedAnswers b) (length (replyOf b))
   unfolding readBack replyOf
   read-back ranged =
-      let found = answers b in
+      let found = sharedAnswers b in
       let bits = b .streams * b .width in
-      let each = answers-bits (b .vectors) (ranged .each) 0 in
-      let many = answers-many (b .vectors) 0 in
+      let each = answers-bits found (of-vectors b ranged) in
+      let many = answers-many b (ranged .owned) in
       let short = reply-short b ranged in
       let sizes = b .streams ∷ b .width ∷ length (b .vectors) ∷ [] in
       let whole = written (replyNumbers b) in

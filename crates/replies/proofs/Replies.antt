@@ -15,7 +15,9 @@ use Rattle.model.specs.Constellation.{Bits, number}
 use Rattle.model.specs.Metric.{Row, Vector, labelBits, priorAt}
 use Rattle.model.specs.Soft.{Least, infinite, finite, leastWith, pick, softValue, softAt}
 use Rattle.model.specs.Walk.{isLeaf, walk, treeNodes}
-use Rattle.model.specs.Block.{Block, vectorOf, walkedNodes, walkedLabels, isStopped, emptySide, answer, allowance, answersFrom, answers}
+use Rattle.model.specs.Block.{Block, vectorOf, walkedNodes, walkedLabels, isStopped, emptySide, Answer, answer}
+use Rattle.owners.specs.Owners.{sharedFrom, sharedAnswers}
+use Rattle.owners.proofs.Owners.{answers-many}
 use Rattle.model.specs.Block.{_∈_, Every, Within, VectorInRange, InRange, mostClip, mostShare}
 use Rattle.model.proofs.Lists.{of-those, length-upFrom, every-upFrom}
 use Rattle.model.proofs.Numbers.{number-below}
@@ -150,58 +152,66 @@ module _ {b : Block} (ranged : InRange b) {rows : List Row} (vector : VectorInRa
         mul-assoc 4 (b .streams) (b .width),
       )
 
--- The first answer's bytes, and the others'
-pub written-first : (b : Block) (spent : ℕ) (rows : List Row) (later : List (List Row))
-    → let a = answer (vectorOf b rows) (b .weak) (allowance b spent (length later)) in
-    written (answersNumbers (answersFrom b spent (rows ∷ later)))
-    ≡ written (answerNumbers a) ++ written (answersNumbers (answersFrom b (spent + a .count) later))
-unfolding answersFrom answersNumbers
-written-first b spent rows later =
-    let a = answer (vectorOf b rows) (b .weak) (allowance b spent (length later)) in
-    written-append (answerNumbers a) (answersNumbers (answersFrom b (spent + a .count) later))
+-- An answer of a vector in range, under some allowance
+pub record OfVector (b : Block) (a : Answer) : Type 0 where
+  pub rows : List Row
+  pub vector : VectorInRange (b .streams) (b .width) rows
+  pub allowed : ℕ
+  pub is : answer (vectorOf b rows) (b .weak) allowed ≡ a
+
+-- as all answers of a block in range are
+from-vectors : (b : Block) (os : List ℕ) (vs : List (List Row)) (spent : ℕ → ℕ) → Every (VectorInRange (b .streams) (b .width)) vs
+    → Every (OfVector b) (sharedFrom b spent os vs)
+unfolding sharedFrom
+from-vectors b [] vs spent h = tt
+from-vectors b (o ∷ os) [] spent h = tt
+from-vectors b (o ∷ os) (rows ∷ later) spent h =
+    (record { rows = rows; vector = h .0; allowed = _; is = refl }, from-vectors b os later _ (h .1))
+
+pub of-vectors : (b : Block) → InRange b → Every (OfVector b) (sharedAnswers b)
+of-vectors b ranged = from-vectors b (b .owners) (b .vectors) (λ o. 0) (ranged .each)
 
 module _ (b : Block) (ranged : InRange b) where
-  answers-short : (vs : List (List Row)) → Every (VectorInRange (b .streams) (b .width)) vs → (spent : ℕ)
-      → Every Short (answersNumbers (answersFrom b spent vs))
-  unfolding answersNumbers answersFrom
-  answers-short [] h spent = tt
-  answers-short (rows ∷ later) h spent =
-      let a = answer (vectorOf b rows) (b .weak) (allowance b spent (length later)) in
-      every-append Short (answerNumbers a) (answersNumbers (answersFrom b (spent + a .count) later))
-      (answer-short ranged (h .0) (allowance b spent (length later))) (answers-short later (h .1) (spent + a .count))
+  answers-short : (found : List Answer) → Every (OfVector b) found → Every Short (answersNumbers found)
+  unfolding answersNumbers
+  answers-short [] h = tt
+  answers-short (a ∷ rest) h =
+      let v = h .0 in
+      every-append Short (answerNumbers a) (answersNumbers rest)
+      (subst (λ (x : Answer). Every Short (answerNumbers x)) (v .is) (answer-short ranged (v .vector) (v .allowed))) (answers-short rest (h .1))
 
-  answers-room : (vs : List (List Row)) → Every (VectorInRange (b .streams) (b .width)) vs → (spent : ℕ)
-      → length (written (answersNumbers (answersFrom b spent vs))) ≤ length vs * (9 + 4 * b .streams * b .width)
-  unfolding written answersNumbers answersFrom
-  answers-room [] h spent = zero-le
-  answers-room (rows ∷ later) h spent =
-      let a = answer (vectorOf b rows) (b .weak) (allowance b spent (length later)) in
-      let rest = answersNumbers (answersFrom b (spent + a .count) later) in
+  answers-room : (found : List Answer) → Every (OfVector b) found
+      → length (written (answersNumbers found)) ≤ length found * (9 + 4 * b .streams * b .width)
+  unfolding written answersNumbers
+  answers-room [] h = zero-le
+  answers-room (a ∷ rest) h =
+      let v = h .0 in
       omega (
         arith,
-        ap length (written-first b spent rows later) ∙ length-append (written (answerNumbers a)) (written rest),
-        answer-room ranged (h .0) (allowance b spent (length later)),
-        answers-room later (h .1) (spent + a .count),
-        suc-mul (length later) (9 + 4 * b .streams * b .width),
+        ap length (written-append (answerNumbers a) (answersNumbers rest)) ∙ length-append (written (answerNumbers a)) (written (answersNumbers rest)),
+        subst (λ (x : Answer). length (written (answerNumbers x)) ≤ 9 + 4 * b .streams * b .width) (v .is) (answer-room ranged (v .vector) (v .allowed)),
+        answers-room rest (h .1),
+        suc-mul (length rest) (9 + 4 * b .streams * b .width),
       )
 
   -- Every number of a reply has at most four groups
   pub reply-short : Every Short (replyNumbers b)
   reply-short =
       let narrow = width-small (b .width) (ranged .width) in
-      (omega (arith, ranged .streams), (omega arith, (omega (arith, ranged .vectors), answers-short (b .vectors) (ranged .each) 0)))
+      (omega (arith, ranged .streams), (omega arith, (omega (arith, ranged .vectors), answers-short (sharedAnswers b) (of-vectors b ranged))))
 
   -- A reply is no longer than the buffer that is asked for
   pub reply-room : length (replyOf b) ≤ replyRoom b
   unfolding replyOf replyRoom
   reply-room =
       let narrow = width-small (b .width) (ranged .width) in
-      let rest = answersNumbers (answers b) in
+      let rest = answersNumbers (sharedAnswers b) in
       let opened : length (replyOf b) ≡ 4 + length (written (replyNumbers b)) = length-append replyOpening (written (replyNumbers b)) in
       omega (
         arith,
         written-one (b .streams) (b .width ∷ length (b .vectors) ∷ rest) (omega (arith, ranged .streams)),
         written-one (b .width) (length (b .vectors) ∷ rest) (omega arith),
         written-one (length (b .vectors)) rest (omega (arith, ranged .vectors)),
-        answers-room (b .vectors) (ranged .each) 0,
+        answers-room (sharedAnswers b) (of-vectors b ranged),
+        ap (λ (n : ℕ). n * (9 + 4 * b .streams * b .width)) (answers-many b (ranged .owned)),
       )

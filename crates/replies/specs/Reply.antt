@@ -3,7 +3,8 @@ use Prim.Native.Nat.{ℕ, _+_, _*_}
 use mathlib.Core.Bool.{Bool, true, false}
 use mathlib.Core.List.{List, [], _∷_, _++_, map}
 use lib.ListN.{length}
-use Rattle.model.specs.Block.{Block, Answer, answers}
+use Rattle.model.specs.Block.{Block, Answer}
+use Rattle.owners.specs.Owners.{sharedAnswers}
 use Rattle.wire.specs.Writing.{bytesOf}
 use Rattle.wire.specs.Folding.{folded}
 
@@ -26,7 +27,7 @@ answersNumbers (a ∷ rest) = answerNumbers a ++ answersNumbers rest
 
 -- The numbers of a reply: "M, Q, N. For each vector" its answer
 abbrev pub replyNumbers : Block → List ℕ
-replyNumbers b = b .streams ∷ b .width ∷ length (b .vectors) ∷ answersNumbers (answers b)
+replyNumbers b = b .streams ∷ b .width ∷ length (b .vectors) ∷ answersNumbers (sharedAnswers b)
 
 -- Numbers one after the other, each in its groups
 unfoldable pub written : List ℕ → List ℕ

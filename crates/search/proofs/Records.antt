@@ -10,7 +10,7 @@ use lib.IntN.{ℤ}
 use Rattle.model.specs.Block.{InRange, mostStreams, mostBits}
 use Rattle.model.proofs.Bounds.{width-small, width-positive}
 use Rattle.block.specs.declared.Layout.{Layout}
-use Rattle.block.specs.Reading.{headerSize, vectorSize, countAt, layoutOf, readWhole, got, into, mostNumbers}
+use Rattle.block.specs.Reading.{ownCount, headerSize, vectorSize, ownedSize, countAt, layoutOf, readWhole, got, into, mostNumbers}
 use Rattle.block.specs.Contents.{vectorNumbers, blockOf}
 use Rattle.block.specs.declared.Read.the-variants.{Ended}
 use Rattle.block.proofs.Lent.{AllPlaced, vectors-fit, lent-room, lent-in-range, lent-placed}
@@ -66,27 +66,27 @@ module _ (o : Layout) (list : List ℤ) (h : Holds o list) (m q : ℕ) (em : m �
       let streams : m ≤ mostStreams = omega (arith, em, r .streams) in
       record { streams = streams; square = mul-le-mul streams streams; bits = rw (em, eq) (r .label) }
 
-  -- Vector k ends within the list, and a search may be asked for the part that it is
+  -- Vector k's numbers, behind its owner's, end within the list, and a search may be asked for the part that they are
   module _ (k : ℕ) (l : k < countAt 2 list) where
-    pub vector-end : headerSize o + k * vectorSize m q + vectorSize m q ≤ mostNumbers
+    abbrev start : ℕ
+    start = headerSize o + k * ownedSize (ownCount o) m q + ownCount o
+
+    pub vector-end : start + vectorSize m q ≤ mostNumbers
     vector-end =
-        let size = vectorSize (countAt 0 list) (countAt 1 list) in
+        let size = ownedSize (ownCount o) (countAt 0 list) (countAt 1 list) in
         rw (em, eq) (omega (arith, vectors-fit o list (h .ranged), suc-mul k size, mul-le-mul l (le-refl size)))
 
-    vector-part : let start = headerSize o + k * vectorSize m q in take (start + vectorSize m q - start) (drop start list) ≡ vectorNumbers o list k
+    vector-part : take (start + vectorSize m q - start) (drop start list) ≡ vectorNumbers o list k
     vector-part =
-        let start = headerSize o + k * vectorSize m q in
         let e : start + vectorSize m q - start ≡ vectorSize m q = omega arith in
         rw e (rw (em, eq))
 
-    pub part-asked : (c : ℕ) → c ≡ countAt 3 list
-        → let start = headerSize o + k * vectorSize m q in SearchAsked m q c (take (start + vectorSize m q - start) (drop start list))
+    pub part-asked : (c : ℕ) → c ≡ countAt 3 list → SearchAsked m q c (take (start + vectorSize m q - start) (drop start list))
     part-asked c ec = rw (vector-part, em, eq, ec) (h .each k l)
 
     -- What it answers under an allowance is the answer for vector k
     pub part-answered : (c : ℕ) → c ≡ countAt 3 list → {w x : ℕ} → w ≡ x → {d a : ℕ} → d ≡ a
         → {b : Bool} {n label distance : ℕ} {before after : List ℤ}
-        → let start = headerSize o + k * vectorSize m q in
-        Answered (vectorAt m q c (take (start + vectorSize m q - start) (drop start list))) w d b n label distance before after
+        → Answered (vectorAt m q c (take (start + vectorSize m q - start) (drop start list))) w d b n label distance before after
         → Answered (vectorAt (countAt 0 list) (countAt 1 list) (countAt 3 list) (vectorNumbers o list k)) x a b n label distance before after
     part-answered c ec ew ed answered = rw (vector-part, em, eq, ec, ew, ed) at answered

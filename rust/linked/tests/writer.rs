@@ -64,10 +64,11 @@ fn every_record() {
 #[test]
 fn beginnings_of_refused_lists() {
     let mut refused = 0;
-    let short = lists::too_long().take(836);
+    let short = lists::too_long().take(1_254);
     let weak = lists::weak_values().filter(|list| !(0..=list.numbers[3]).contains(&list.numbers[4]));
+    let owners = lists::owners().filter(|list| lists::write(list, &mut [0; MOST_BYTES]) == -17);
     let unknown = lists::unknown_openings().step_by(10);
-    for list in lists::a_fault_and_an_end().chain(lists::two_faults()).chain(short).chain(weak).chain(unknown) {
+    for list in lists::a_fault_and_an_end().chain(lists::two_faults()).chain(short).chain(weak).chain(owners).chain(unknown) {
         let answer = |length: usize| linked::write(list.opening, &list.numbers[..length], &mut [0; MOST_BYTES]);
         let count = list.numbers.len();
         let whole = answer(count);
@@ -78,16 +79,16 @@ fn beginnings_of_refused_lists() {
         assert_eq!(shortest == 0, whole == -1, "{list:?}");
         refused += 1;
     }
-    assert_eq!(refused, 29_937);
+    assert_eq!(refused, 48_067);
 }
 
 /// An opening that there is not is refused before the list or the buffer is looked at: an empty list, and no room.
 #[test]
 fn unknown_openings() {
-    for opening in [0, 3, 4, u32::MAX] {
+    for opening in [0, 4, 5, u32::MAX] {
         assert_eq!(linked::write(opening, &[], &mut []), -1, "{opening}");
     }
-    for opening in 1..=2 {
+    for opening in 1..=3 {
         assert_eq!(linked::write(opening, &[], &mut []), -2, "{opening}");
     }
 }
@@ -95,7 +96,7 @@ fn unknown_openings() {
 /// Lent memory of every length up to some entries to spare.
 #[test]
 fn lent_memory_of_any_length() {
-    for list in lists::whole().take(76) {
+    for list in lists::whole().take(114) {
         let room = list.room;
         let (returned, record) = same_write(&list, once(room).chain(0..room + 5));
         assert_eq!(returned, room as i64);

@@ -2,7 +2,8 @@
 //!
 //! `reader_cases FOLDER` writes FOLDER/stdin and FOLDER/stdout; `reader_cases --check FOLDER` compares the files there with what
 //! it would write. The input has the cases one after another, each a two-byte length, low byte first, and that many bytes. The
-//! output has a line for each: `refused` and the refusal's number, or `accepted`, how many numbers there are and their checksum.
+//! output has a line for each: `refused` and the refusal's number, or `accepted`, how many numbers there are and their checksum. The
+//! numbers are all that the record has, unfolded and in record order, W and owners among them where it has these.
 
 use reference::command::{self, run};
 use reference::format::record::read;

@@ -5,7 +5,7 @@
 //! record for each refusal: hosts/expected/samples and hosts/expected/refusals. The samples that were written by hand have their
 //! numbers from samples/NAME.numbers, which is read and stays as it is. Document 01's record and listing, as they stand there, are
 //! the listing program's own test: crates/list/stdin and stdout. `samples --check ROOT` compares the files there with what it would
-//! write. `samples --refusals FOLDER` writes the records for the refusals, 1.rec to 13.rec, 15.rec and 16.rec.
+//! write. `samples --refusals FOLDER` writes the records for the refusals, 1.rec to 13.rec and 15.rec to 17.rec.
 
 use reference::command::{self, run};
 use reference::format::encoding::Contents;

@@ -1,5 +1,6 @@
-//! The plain detector: document 01 word for word, and 02's 256 points, weak value, distance and ties, for checking others by. What the
-//! walk asks of the leaves walked so far is worked out from their list at every test, and nothing is kept.
+//! The plain detector: document 01 word for word, and 02's 256 points, weak value, distance, ties and owners, for checking others by.
+//! What the walk asks of the leaves walked so far is worked out from their list at every test, what an owner has left from the counts of
+//! its vectors, and nothing is kept.
 //!
 //! Streams, rows and bits count from 0 here: stream 0 is the paper's stream 1, and bit 0 the label's first and highest.
 
@@ -36,16 +37,15 @@ pub fn search(block: &Block) -> Vec<Found> {
     search_by(Ties::ByPriors, block)
 }
 
-/// Vector k may walk N x D, less the nodes walked before it, less (N - k) x M.
+/// An owner's k-th of n vectors may walk n x D, less the nodes that its earlier ones walked, less (n - k) x M.
 pub fn search_by(ties: Ties, block: &Block) -> Vec<Found> {
-    let count = block.vectors.len() as i64;
-    let mut walked = 0;
-    let mut all = Vec::new();
-    for (vector, k) in block.vectors.iter().zip(1..) {
-        let allowance = count * block.share - walked - (count - k) * block.streams as i64;
-        let found = search_one(ties, block, vector, allowance);
-        walked += found.answer.nodes;
-        all.push(found);
+    let mut all: Vec<Found> = Vec::new();
+    for (at, vector) in block.vectors.iter().enumerate() {
+        let own = block.places_of(block.owners[at]);
+        let (earlier, later): (Vec<usize>, Vec<usize>) = own.iter().filter(|&&other| other != at).partition(|&&other| other < at);
+        let walked: i64 = earlier.into_iter().map(|other| all[other].answer.nodes).sum();
+        let allowance = own.len() as i64 * block.share - walked - (later.len() * block.streams) as i64;
+        all.push(search_one(ties, block, vector, allowance));
     }
     all
 }

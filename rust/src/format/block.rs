@@ -64,7 +64,8 @@ pub const SHAPES: [(usize, usize); 19] = [
     (3, 8),
 ];
 
-/// A block: M streams of Q bits, the clip C, the weak value W, the share D, and N vectors. An older record has W = C.
+/// A block: M streams of Q bits, the clip C, the weak value W, the share D, and N vectors with their owners. An older record has W = C,
+/// and a record without owners has one for all vectors, owner 1.
 #[derive(Clone, Debug, PartialEq, Eq)]
 pub struct Block {
     pub opening: Opening,
@@ -73,6 +74,7 @@ pub struct Block {
     pub clip: i64,
     pub weak: i64,
     pub share: i64,
+    pub owners: Vec<usize>,
     pub vectors: Vec<Vector>,
 }
 
@@ -87,15 +89,21 @@ pub struct Vector {
 impl Block {
     /// The block of an older record.
     pub fn older(streams: usize, bits: usize, clip: i64, share: i64, vectors: Vec<Vector>) -> Block {
-        Block { opening: Opening::One, streams, bits, clip, weak: clip, share, vectors }
+        Block { opening: Opening::One, streams, bits, clip, weak: clip, share, owners: vec![1; vectors.len()], vectors }
     }
 
-    /// The same with this W, in a record that has one.
+    /// The same with this W, in a record that has one and no owners.
     pub fn with_weak(self, weak: i64) -> Block {
-        Block { opening: Opening::Two, weak, ..self }
+        Block { opening: Opening::Two, weak, owners: vec![1; self.vectors.len()], ..self }
     }
 
-    /// The same as an older record has it, with W = C.
+    /// The same with these owners, one for each vector.
+    pub fn with_owners(self, owners: Vec<usize>) -> Block {
+        assert_eq!(owners.len(), self.vectors.len(), "each vector has an owner");
+        Block { opening: Opening::Three, owners, ..self }
+    }
+
+    /// The same as an older record has it, with W = C and no owners.
     pub fn without_weak(self) -> Block {
         Block::older(self.streams, self.bits, self.clip, self.share, self.vectors)
     }
@@ -108,8 +116,12 @@ impl Block {
         let (streams, bits, count, clip) = (next() as usize, next() as usize, next(), next());
         let weak = if opening.has_weak() { next() } else { clip };
         let share = next();
-        let vectors = (0..count).map(|_| Vector::taken(&mut next, streams, streams * bits)).collect();
-        Block { opening, streams, bits, clip, weak, share, vectors }
+        let mut owned = || {
+            let owner = if opening.has_owners() { next() as usize } else { 1 };
+            (owner, Vector::taken(&mut next, streams, streams * bits))
+        };
+        let (owners, vectors) = (0..count).map(|_| owned()).unzip();
+        Block { opening, streams, bits, clip, weak, share, owners, vectors }
     }
 
     /// The block of a record's bytes.
@@ -122,8 +134,16 @@ impl Block {
         let mut numbers = vec![self.streams as i64, self.bits as i64, self.vectors.len() as i64, self.clip];
         numbers.extend(self.opening.has_weak().then_some(self.weak));
         numbers.push(self.share);
-        numbers.extend(self.vectors.iter().flat_map(Vector::numbers));
+        for (&owner, vector) in self.owners.iter().zip(&self.vectors) {
+            numbers.extend(self.opening.has_owners().then_some(owner as i64));
+            numbers.extend(vector.numbers());
+        }
         Contents { opening: self.opening, numbers }
+    }
+
+    /// The places of an owner's vectors, counted from 0.
+    pub fn places_of(&self, owner: usize) -> Vec<usize> {
+        (0..self.owners.len()).filter(|&at| self.owners[at] == owner).collect()
     }
 
     pub fn record(&self) -> Vec<u8> {

@@ -1,5 +1,5 @@
-//! How a record's numbers stand in it, by document 01, "The record", and by document 02's Point 4, which adds W: openings, the numbers'
-//! forms and their places, and an encoder that makes records for tests, wrong ones too. Nothing is ranged here.
+//! How a record's numbers stand in it, by document 01, "The record", and by document 02's Points 4 and 7, which add W and owners:
+//! openings, the numbers' forms and their places, and an encoder that makes records for tests, wrong ones too. Nothing is ranged here.
 
 /// How a record opens, which says what numbers it has.
 #[derive(Clone, Copy, Debug, PartialEq, Eq)]
@@ -8,10 +8,12 @@ pub enum Opening {
     One,
     /// W stands directly after C.
     Two,
+    /// The same, and an owner before each vector.
+    Three,
 }
 
 impl Opening {
-    pub const ALL: [Opening; 2] = [Opening::One, Opening::Two];
+    pub const ALL: [Opening; 3] = [Opening::One, Opening::Two, Opening::Three];
 
     /// How many bytes it has.
     pub const LENGTH: usize = 4;
@@ -21,6 +23,7 @@ impl Opening {
         match self {
             Opening::One => 1,
             Opening::Two => 2,
+            Opening::Three => 3,
         }
     }
 
@@ -33,6 +36,7 @@ impl Opening {
         match self {
             Opening::One => [0x43, 0x42, 0x52, 0x31],
             Opening::Two => [0x43, 0x42, 0x52, 0x32],
+            Opening::Three => [0x43, 0x42, 0x52, 0x33],
         }
     }
 
@@ -46,12 +50,26 @@ impl Opening {
         self.sizes().contains(&Place::Weak)
     }
 
+    /// Does a record that opens so have an owner before each vector?
+    pub fn has_owners(self) -> bool {
+        self.of_vectors().contains(&Place::Owner)
+    }
+
     /// The places of the numbers before the first vector.
     pub fn sizes(self) -> &'static [Place] {
         use Place::*;
         match self {
             Opening::One => &[Streams, Bits, Vectors, Clip, Share],
-            Opening::Two => &[Streams, Bits, Vectors, Clip, Weak, Share],
+            Opening::Two | Opening::Three => &[Streams, Bits, Vectors, Clip, Weak, Share],
+        }
+    }
+
+    /// The places that a vector's numbers can have.
+    pub fn of_vectors(self) -> &'static [Place] {
+        use Place::*;
+        match self {
+            Opening::One | Opening::Two => &[Diagonal, Right, Received, Prior],
+            Opening::Three => &[Owner, Diagonal, Right, Received, Prior],
         }
     }
 
@@ -59,6 +77,7 @@ impl Opening {
     pub fn places(self, streams: i64, bits: i64, vectors: i64) -> Vec<Place> {
         let mut all = self.sizes().to_vec();
         for _ in 0..vectors {
+            all.extend(self.has_owners().then_some(Place::Owner));
             for row in 0..streams {
                 all.push(Place::Diagonal);
                 all.extend((row + 1..streams).flat_map(|_| [Place::Right, Place::Right]));
@@ -150,6 +169,7 @@ pub enum Place {
     Clip,
     Weak,
     Share,
+    Owner,
     Diagonal,
     Right,
     Received,
@@ -157,12 +177,9 @@ pub enum Place {
 }
 
 impl Place {
-    /// Those of a vector's numbers.
-    pub const OF_VECTORS: [Place; 4] = [Place::Diagonal, Place::Right, Place::Received, Place::Prior];
-
     /// All that an opening has.
     pub fn all(opening: Opening) -> impl Iterator<Item = Place> {
-        opening.sizes().iter().copied().chain(Place::OF_VECTORS)
+        opening.sizes().iter().chain(opening.of_vectors()).copied()
     }
 
     /// Has a number that stands here a sign, so that it is folded?
@@ -201,8 +218,23 @@ mod tests {
             assert_eq!(Opening::of(&opening.bytes()), Some(opening));
             assert_eq!(Opening::of(&opening.bytes()[..3]), None);
         }
-        assert_eq!([0, 3, 4, 0x31, 257, 258, u32::MAX].map(Opening::told), [None; 7]);
+        assert_eq!([0, 4, 5, 0x31, 0x33, 257, 259, u32::MAX].map(Opening::told), [None; 8]);
         let by_last = |last: u8| Opening::of(&[0x43, 0x42, 0x52, last]);
         assert_eq!((0..=255).filter_map(by_last).collect::<Vec<_>>(), Opening::ALL);
+    }
+
+    /// M = 2, Q = 1, N = 2 with owners: M, Q, N, C, W, D; and twice an owner, two rows of R, y and two priors.
+    #[test]
+    fn an_owner_stands_before_each_vector() {
+        use Place::*;
+        let sizes = [Streams, Bits, Vectors, Clip, Weak, Share];
+        let vector = [Owner, Diagonal, Right, Right, Diagonal, Received, Received, Received, Received, Prior, Prior];
+        assert_eq!(Opening::Three.places(2, 1, 2), [sizes.as_slice(), &vector, &vector].concat());
+        assert_eq!(Opening::Two.places(2, 1, 1), [sizes.as_slice(), &vector[1..]].concat());
+        assert_eq!(
+            Opening::ALL.map(|opening| (opening.has_weak(), opening.has_owners())),
+            [(false, false), (true, false), (true, true)]
+        );
+        assert!(!Owner.is_folded());
     }
 }

@@ -1,16 +1,16 @@
 //! The record reader, by document 01, "The record" and "Where a record is turned back", and by document 02's Point 1, which adds
-//! Q = 8, and its Point 4, which adds W.
+//! Q = 8, its Point 4, which adds W, and its Point 7, which adds owners.
 
 use super::encoding::{unfold, Contents, Numbers, Opening};
 
 /// What Q may be.
 pub const WIDTHS: [i64; 5] = [1, 2, 4, 6, 8];
 
-/// The most bytes that a record has, and the most numbers: 64 vectors of four streams of six bits, and W.
-pub const MOST_BYTES: usize = 8_211;
-pub const MOST_NUMBERS: usize = 3_078;
+/// The most bytes that a record has, and the most numbers: 64 vectors of four streams of six bits, W, and an owner for each vector.
+pub const MOST_BYTES: usize = 8_275;
+pub const MOST_NUMBERS: usize = 3_142;
 
-/// A refusal that a record can meet: 1 to 13 by document 01's table, 15 and 16 by document 02.
+/// A refusal that a record can meet: 1 to 13 by document 01's table, 15 to 17 by document 02.
 pub type Refusal = u32;
 
 /// What becomes of a record: its opening and its numbers, or the refusal that decides.
@@ -32,6 +32,9 @@ fn read_onto(numbers: &mut Numbers, bytes: &[u8]) -> Result<Opening, Refusal> {
     read_sizes(opening, &mut rest, numbers)?;
     let (streams, bits, vectors) = (numbers[0], numbers[1], numbers[2]);
     for _ in 0..vectors {
+        if opening.has_owners() {
+            numbers.push(within(read_plain(&mut rest)?, 1, 4, 17)?);
+        }
         read_matrix(&mut rest, numbers, streams)?;
         read_received(&mut rest, numbers, streams)?;
         read_priors(&mut rest, numbers, streams * bits)?;
@@ -135,7 +138,7 @@ fn read_folded(rest: &mut &[u8]) -> Result<i64, Refusal> {
 mod tests {
     use super::*;
     use crate::format::encoding::plain;
-    use crate::inputs::readings::{listing, two_streams, weak_reading, LISTING_RECORD, WEAK_RECORD};
+    use crate::inputs::readings::{listing, owned_reading, two_streams, weak_reading, LISTING_RECORD, OWNED_RECORD, WEAK_RECORD};
 
     #[test]
     fn the_listing_record_has_the_bench_vector_twice() {
@@ -192,6 +195,43 @@ mod tests {
         assert_eq!(sizes(&[5, 0x85]), Some(2));
         assert_eq!(sizes(&[5, 0x85, 0x00]), Some(3));
         assert_eq!(sizes(&[5, 5, 0]), Some(8));
+    }
+
+    #[test]
+    fn a_record_with_an_owner() {
+        assert_eq!(read(&OWNED_RECORD), Ok(owned_reading()));
+        assert_eq!(owned_reading().record(), OWNED_RECORD);
+    }
+
+    /// Refusal 17 stands before a vector's R: after 8, and before anything is asked of the diagonal; and for each vector in its place.
+    #[test]
+    fn an_owner_is_1_to_4() {
+        let vectors =
+            |count: u8, bytes: &[u8]| read(&[&Opening::Three.bytes(), [1, 1, count, 5, 3, 1].as_slice(), bytes].concat()).err();
+        let owners = [0, 1, 2, 3, 4, 5, 127];
+        assert_eq!(owners.map(|owner| vectors(1, &[owner])), [17, 2, 2, 2, 2, 17, 17].map(Some));
+        assert_eq!(owners.map(|owner| vectors(1, &[owner, 1, 4, 0, 20])), [Some(17), None, None, None, None, Some(17), Some(17)]);
+        for after in [&[] as &[u8], &[0x80], &[0x80, 0x00], &[0x00], &[0x80, 0x10]] {
+            assert_eq!(vectors(1, &[&[5], after].concat()), Some(17), "{after:02X?}");
+            assert_eq!(vectors(2, &[&[1, 1, 4, 0, 20, 0], after].concat()), Some(17), "{after:02X?}");
+        }
+        for (bytes, refusal) in [
+            (&[] as &[u8], 2),
+            (&[0x84], 2),
+            (&[0x84, 0x00], 3),
+            (&[0x84, 0x80, 0x80, 0x80], 3),
+            (&[0x80, 0x01], 17),
+            (&[0x81, 0x02], 17),
+            (&[1, 0], 9),
+            (&[1, 1, 4, 0, 0x80, 0x80, 0x80, 0x01, 5], 12),
+            (&[1, 1, 4, 0, 20, 1, 0], 9),
+            (&[1, 1, 4, 0, 20], 2),
+        ] {
+            assert_eq!(vectors(2, bytes), Some(refusal), "{bytes:02X?}");
+        }
+        let shares = |bytes: &[u8]| read(&[&Opening::Three.bytes(), [1, 1, 1, 5].as_slice(), bytes].concat());
+        assert_eq!(shares(&[3, 0, 5]), Err(8));
+        assert_eq!(shares(&[6, 1, 5]), Err(16));
     }
 
     #[test]

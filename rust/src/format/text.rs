@@ -26,10 +26,14 @@ pub fn text_of(contents: &Contents) -> String {
     let sizes = &contents.numbers[..contents.opening.sizes().len()];
     let mut lines = match contents.opening {
         Opening::One => vec![line(sizes, "M Q N C D")],
-        Opening::Two => vec!["opening 2".to_string(), line(sizes, "M Q N C W D")],
+        Opening::Two | Opening::Three => {
+            vec![format!("opening {}", contents.opening.number()), line(sizes, "M Q N C W D")]
+        }
     };
-    for (vector, index) in Block::of(contents).vectors.iter().zip(1..) {
+    let Block { owners, vectors, .. } = Block::of(contents);
+    for ((vector, &owner), index) in vectors.iter().zip(&owners).zip(1..) {
         lines.push(format!("# vector {index}"));
+        lines.extend(contents.opening.has_owners().then(|| line(&[owner as i64], "owner")));
         lines.extend(vector_lines(vector));
     }
     lines.join("\n") + "\n"
@@ -57,7 +61,6 @@ mod tests {
     const VECTOR: [i64; 12] = [11, 12, 13, 14, 15, 16, 17, 18, 19, 20, 21, -22];
 
     const VECTOR_LINES: &str = "\
-# vector 1
 11 12 13   # R, row 1
 14   # R, row 2
 15 16 17 18   # y
@@ -72,13 +75,22 @@ mod tests {
     #[test]
     fn the_text_of_one_vector() {
         let contents = Contents { opening: Opening::One, numbers: [[2, 2, 1, 10, 3].as_slice(), &VECTOR].concat() };
-        assert_eq!(text_of(&contents), format!("2 2 1 10 3   # M Q N C D\n{VECTOR_LINES}"));
+        assert_eq!(text_of(&contents), format!("2 2 1 10 3   # M Q N C D\n# vector 1\n{VECTOR_LINES}"));
     }
 
     #[test]
     fn the_text_of_one_vector_with_w() {
         let contents = Contents { opening: Opening::Two, numbers: [[2, 2, 1, 10, 7, 3].as_slice(), &VECTOR].concat() };
-        assert_eq!(text_of(&contents), format!("opening 2\n2 2 1 10 7 3   # M Q N C W D\n{VECTOR_LINES}"));
+        assert_eq!(text_of(&contents), format!("opening 2\n2 2 1 10 7 3   # M Q N C W D\n# vector 1\n{VECTOR_LINES}"));
+    }
+
+    #[test]
+    fn the_text_of_two_vectors_with_owners() {
+        let numbers = [[2, 2, 2, 10, 7, 3, 4].as_slice(), &VECTOR, &[1], &VECTOR].concat();
+        let first = format!("# vector 1\n4   # owner\n{VECTOR_LINES}");
+        let second = format!("# vector 2\n1   # owner\n{VECTOR_LINES}");
+        let text = format!("opening 3\n2 2 2 10 7 3   # M Q N C W D\n{first}{second}");
+        assert_eq!(text_of(&Contents { opening: Opening::Three, numbers }), text);
     }
 
     #[test]
@@ -101,7 +113,8 @@ mod tests {
         assert_eq!(numbers_of(" # W\n opening # which?\n\t2 1"), Ok((2, vec![1])));
         assert_eq!(numbers_of("opening 1 2"), Ok((1, vec![2])));
         assert_eq!(numbers_of("opening 2"), Ok((2, vec![])));
-        for text in ["opening", "opening # 2", "opening 0", "opening 3 1", "opening -2", "opening x", "1 opening 2", "opening2 1"]
+        assert_eq!(numbers_of("opening 3\n1 -2"), Ok((3, vec![1, -2])));
+        for text in ["opening", "opening # 2", "opening 0", "opening 4 1", "opening -2", "opening x", "1 opening 2", "opening3 1"]
         {
             assert!(numbers_of(text).is_err(), "{text}");
         }

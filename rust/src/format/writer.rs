@@ -1,4 +1,4 @@
-//! Block records made of their numbers, and the numbers taken back, by document 02's Points 2 and 4: both fill lent memory.
+//! Block records made of their numbers, and the numbers taken back, by document 02's Points 2, 4 and 7: both fill lent memory.
 //!
 //! A list's numbers are ranged here on their own, in record order and without the record reader, so that writer and reader can be held
 //! to each other.
@@ -68,6 +68,9 @@ impl Writer<'_> {
         }
         self.take_plain(streams..=17_043_520, 8)?;
         for _ in 0..vectors {
+            if opening.has_owners() {
+                self.take_plain(1..=4, 17)?;
+            }
             self.take_vector(streams, bits)?;
         }
         if self.rest.is_empty() {
@@ -134,10 +137,13 @@ mod tests {
     use super::*;
     use crate::comparison::expect;
     use crate::format::encoding::Contents;
-    use crate::inputs::readings::{listing, two_streams, weak_reading, LISTING_RECORD, WEAK_RECORD};
+    use crate::inputs::readings::{
+        listing, owned, owned_reading, two_streams, weak_reading, LISTING_RECORD, OWNED_RECORD, WEAK_RECORD,
+    };
 
     const ONE: u32 = 1;
     const TWO: u32 = 2;
+    const THREE: u32 = 3;
 
     /// Numbers as they stand in a list.
     fn list(contents: Contents) -> Vec<i32> {
@@ -154,12 +160,21 @@ mod tests {
         list(weak_reading())
     }
 
+    /// M = 1, Q = 1, N = 1, C = 5, W = 3, D = 1, and owner 4 before R, y and a prior.
+    fn owned_bench() -> Vec<i32> {
+        list(owned_reading())
+    }
+
     fn write_one(numbers: &[i32], record: &mut [u8]) -> i64 {
         write(ONE, numbers, record)
     }
 
     fn write_two(numbers: &[i32], record: &mut [u8]) -> i64 {
         write(TWO, numbers, record)
+    }
+
+    fn write_three(numbers: &[i32], record: &mut [u8]) -> i64 {
+        write(THREE, numbers, record)
     }
 
     /// What is returned for a list with another number at some places; a refusal alters nothing.
@@ -197,31 +212,66 @@ mod tests {
     }
 
     #[test]
+    fn a_record_with_an_owner_both_ways() {
+        for to_spare in [0, 2] {
+            expect(write_three, &owned_bench(), 15 + to_spare, Ok(&OWNED_RECORD));
+            expect(read, &OWNED_RECORD, 11 + to_spare, Ok(&owned_bench()));
+        }
+    }
+
+    #[test]
     fn one_entry_short_is_14_and_alters_nothing() {
         expect(write_one, &list(listing()), 28, Err(14));
         expect(read, &LISTING_RECORD, 24, Err(14));
         expect(write_two, &weak_bench(), 19, Err(14));
         expect(read, &WEAK_RECORD, 15, Err(14));
+        expect(write_three, &owned_bench(), 14, Err(14));
+        expect(read, &OWNED_RECORD, 10, Err(14));
     }
 
     /// An opening that is told by no number is refused before the list or the buffer is looked at.
     #[test]
     fn an_unknown_opening() {
-        for opening in [0, 3, 4, 257, 65_538, u32::MAX - 1, u32::MAX] {
-            for numbers in [&[] as &[i32], &[5], &[i32::MIN], &bench(), &weak_bench()] {
+        for opening in [0, 4, 5, 257, 65_539, u32::MAX - 1, u32::MAX] {
+            for numbers in [&[] as &[i32], &[5], &[i32::MIN], &bench(), &weak_bench(), &owned_bench()] {
                 assert_eq!(verdict(opening, numbers), -1, "{opening}: {numbers:?}");
                 assert_eq!(write(opening, numbers, &mut []), -1, "{opening}: {numbers:?}");
             }
         }
     }
 
-    /// A list has a number too few or too many for the other opening, where D is taken for W and what follows for D, or W for D.
+    /// A list has a number too few or too many for another opening, where D is taken for W and what follows for D, or W for D; the
+    /// diagonal entry for the owner, or the owner for the diagonal entry.
     #[test]
-    fn a_list_under_the_other_opening() {
+    fn a_list_under_another_opening() {
         assert_eq!(verdict(TWO, &bench()), -8);
         assert_eq!(with(TWO, &bench(), &[(5, 2)]), -2);
         assert_eq!(verdict(ONE, &weak_bench()), -9);
         assert_eq!(with(ONE, &weak_bench(), &[(8, 1)]), -13);
+        assert_eq!(verdict(TWO, &owned_bench()), -13);
+        assert_eq!(verdict(ONE, &owned_bench()), -13);
+        assert_eq!(verdict(THREE, &weak_bench()), -2);
+        assert_eq!(with(THREE, &weak_bench(), &[(6, 5)]), -17);
+    }
+
+    /// Each of three owners; what follows a wrong one is not looked at, and an earlier fault comes first. A vector has 11 numbers here.
+    #[test]
+    fn an_owner_is_1_to_4() {
+        let numbers = list(owned([1, 4, 2], 10, 3));
+        for at in [6, 17, 28] {
+            for owner in 1..=4 {
+                assert!(with(THREE, &numbers, &[(at, owner)]) > 0, "{at}: {owner}");
+            }
+            for owner in [i32::MIN, i32::MIN + 1, -255, -4, -1, 0, 5, 6, 128, 132, 257, 260, 65_537, i32::MAX] {
+                assert_eq!(with(THREE, &numbers, &[(at, owner)]), -17, "{at}: {owner}");
+                assert_eq!(with(THREE, &numbers, &[(at, owner), (at + 1, 0), (38, i32::MAX)]), -17, "{at}: {owner}");
+                assert_eq!(with(THREE, &numbers, &[(at - 1, i32::MAX), (at, owner)]), if at == 6 { -8 } else { -12 }, "{at}");
+                assert_eq!(verdict(THREE, &[&numbers[..at], &[owner]].concat()), -17, "{at}: {owner}");
+            }
+            assert_eq!(verdict(THREE, &numbers[..at]), -2, "{at}");
+            assert_eq!(with(THREE, &numbers, &[(at + 1, 0)]), -9, "{at}");
+            assert_eq!(verdict(THREE, &[&numbers[..at], &numbers[at + 1..]].concat()), -2, "{at}");
+        }
     }
 
     /// A place of the bench list, both ends of its range, and the refusal beyond them. M and Q have tests of their own.
@@ -277,7 +327,7 @@ mod tests {
 
     #[test]
     fn streams_bits_and_vectors() {
-        for opening in [ONE, TWO] {
+        for opening in [ONE, TWO, THREE] {
             let sizes = |numbers: &[i32]| -verdict(opening, numbers);
             for streams in [i32::MIN, -1, 0, 5, i32::MAX] {
                 assert_eq!(sizes(&[streams, 1]), 4);
@@ -294,7 +344,7 @@ mod tests {
 
     #[test]
     fn fifteen_stands_at_the_width() {
-        for opening in [ONE, TWO] {
+        for opening in [ONE, TWO, THREE] {
             assert_eq!(verdict(opening, &[4, 8, 0]), -15);
             assert_eq!(verdict(opening, &[4, 9, 0]), -5);
             assert_eq!(verdict(opening, &[5, 8, 0]), -4);
@@ -309,6 +359,7 @@ mod tests {
                 let refusal = if share < streams { 8 } else { 2 };
                 assert_eq!(verdict(ONE, &[streams, 2, 1, 0, share]), -refusal, "M = {streams}, D = {share}");
                 assert_eq!(verdict(TWO, &[streams, 2, 1, 7, 7, share]), -refusal, "M = {streams}, D = {share}");
+                assert_eq!(verdict(THREE, &[streams, 2, 1, 7, 7, share]), -refusal, "M = {streams}, D = {share}");
             }
         }
     }
@@ -329,6 +380,9 @@ mod tests {
         for length in 0..weak_bench().len() {
             assert_eq!(verdict(TWO, &weak_bench()[..length]), -2, "{length}");
         }
+        for length in 0..owned_bench().len() {
+            assert_eq!(verdict(THREE, &owned_bench()[..length]), -2, "{length}");
+        }
         assert_eq!(verdict(ONE, &[2, 1, 1, 10, 1]), -8);
         assert_eq!(verdict(ONE, &[2, 1, 1, -1]), -7);
     }
@@ -339,6 +393,7 @@ mod tests {
         for more in [&[0][..], &[i32::MIN], &[i32::MAX, 0, 0]] {
             assert_eq!(verdict(ONE, &[&bench(), more].concat()), -13);
             assert_eq!(verdict(TWO, &[&weak_bench(), more].concat()), -13);
+            assert_eq!(verdict(THREE, &[&owned_bench(), more].concat()), -13);
         }
         assert_eq!(verdict(ONE, &[&bench()[..14], &[1_048_576, 0]].concat()), -12);
     }
@@ -352,6 +407,8 @@ mod tests {
         assert_eq!(with_no_buffer(&[bench().as_slice(), &[0]].concat()), -13);
         assert_eq!(write(TWO, &weak_bench(), &mut []), -14);
         assert_eq!(write(TWO, &[1, 1, 1, 5, 6], &mut []), -16);
+        assert_eq!(write(THREE, &owned_bench(), &mut []), -14);
+        assert_eq!(write(THREE, &[1, 1, 1, 5, 3, 1, 5], &mut []), -17);
     }
 
     #[test]
@@ -368,10 +425,11 @@ mod tests {
         let opened = |opening: Opening, bytes: &[u8]| [&opening.bytes(), bytes].concat();
         assert_eq!(made_so_far(ONE, &[]), opened(Opening::One, &[]));
         assert_eq!(made_so_far(TWO, &[]), opened(Opening::Two, &[]));
-        assert_eq!(made_so_far(3, &[2, 1]), []);
+        assert_eq!(made_so_far(4, &[2, 1]), []);
         assert_eq!(made_so_far(ONE, &list(listing())), LISTING_RECORD);
         assert_eq!(made_so_far(ONE, &[&list(listing())[..20], &[131_072, 0]].concat()), LISTING_RECORD[..24]);
         assert_eq!(made_so_far(ONE, &[4, 8, 1]), opened(Opening::One, &[4]));
         assert_eq!(made_so_far(TWO, &[1, 1, 1, 5, 6, 2]), opened(Opening::Two, &[1, 1, 1, 5]));
+        assert_eq!(made_so_far(THREE, &[1, 1, 1, 5, 3, 1, 5, 1]), opened(Opening::Three, &[1, 1, 1, 5, 3, 1]));
     }
 }

@@ -122,14 +122,23 @@ pub fn any_block(chance: &mut Chance, streams: usize, bits: usize, vectors: usiz
     Block::older(streams, bits, clip, share, vectors)
 }
 
-/// An older record's block in a record that opens so; W, where it has one, is by chance.
+/// An older record's block in a record that opens so; W and owners, where it has them, are by chance.
 pub fn opened(block: Block, opening: Opening, chance: &mut Chance) -> Block {
-    if opening.has_weak() {
-        let weak = chance.within((0, block.clip));
-        block.with_weak(weak)
-    } else {
-        block
+    if !opening.has_weak() {
+        return block;
     }
+    let weak = chance.within((0, block.clip));
+    let block = block.with_weak(weak);
+    if !opening.has_owners() {
+        return block;
+    }
+    let owners = owners_by_chance(chance, block.vectors.len());
+    block.with_owners(owners)
+}
+
+/// So many owners by chance.
+pub fn owners_by_chance(chance: &mut Chance, count: usize) -> Vec<usize> {
+    (0..count).map(|_| chance.between(1, 4) as usize).collect()
 }
 
 fn any_vector(chance: &mut Chance, streams: usize, label_bits: usize, sizes: Sizes) -> Vector {

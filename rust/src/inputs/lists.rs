@@ -155,18 +155,31 @@ pub fn weak_values() -> impl Iterator<Item = List> {
     by_clip.flat_map(move |(list, clip)| far.into_iter().chain(around(clip)).map(move |weak| List::of(list.with(4, weak))))
 }
 
+/// Each M and Q with each of three owners in turn: in range, next to it, far off, negative, and 1 to 4 in its last 7, 8, 16 or 31 bits.
+pub fn owners() -> impl Iterator<Item = List> {
+    let near = -4..=8;
+    let far = [LEAST, LEAST + 1, LEAST + 4, -65_535, -255, 127, 128, 129, 132, 257, 260, 65_537, 65_540, 16_777_217, GREATEST];
+    right(3).filter(|list| list.opening.has_owners()).flat_map(move |list| {
+        let places = list.places().into_iter().enumerate().filter(|&(_, place)| place == Place::Owner);
+        let tried = near.clone().chain(far);
+        let turns = places.flat_map(move |(at, _)| tried.clone().map(move |owner| (at, owner)));
+        turns.map(move |(at, owner)| List::of(list.with(at, owner)))
+    })
+}
+
 /// Right lists, right but for one number or for their end, and the empty one, with a number that tells no opening: 0, the next ones, the
-/// openings' last bytes, numbers that are 1 or 2 in their last 8, 16 or 31 bits, and the greatest.
+/// openings' last bytes, numbers that are 1, 2 or 3 in their last 8, 16 or 31 bits, and the greatest.
 pub fn unknown_openings() -> impl Iterator<Item = List> {
     let mut chance = Chance(26);
-    let openings = [0, 3, 4, 5, 0x31, 0x32, 257, 258, 65_537, 65_538, 0x8000_0001, 0x8000_0002, u32::MAX - 1, u32::MAX];
+    let alike = [257, 258, 259, 65_537, 65_538, 65_539, 0x8000_0001, 0x8000_0002, 0x8000_0003];
+    let openings = [0, 4, 5, 0x31, 0x32, 0x33, u32::MAX - 1, u32::MAX].into_iter().chain(alike);
     let lists = right(1).chain(right(2)).flat_map(move |list| {
         let places = list.places();
         let at = chance.between(0, places.len() as i64 - 1) as usize;
         let faulty = list.with(at, beyond(&mut chance, &list, places[at]));
         [cut(&list, 0), cut(&list, at), longer(&list, &[0]), faulty, list].map(|list| narrow(list.numbers))
     });
-    lists.flat_map(move |numbers| openings.map(|opening| List::told(opening, numbers.clone())))
+    lists.flat_map(move |numbers| openings.clone().map(move |opening| List::told(opening, numbers.clone())))
 }
 
 /// Right lists of one opening told with another.
@@ -311,21 +324,22 @@ pub fn cut_at_each_length() -> impl Iterator<Item = List> {
 /// The groups, the shorter lists first.
 pub fn groups() -> Vec<Group<List>> {
     vec![
-        Group::of("pairs of sizes", (4_420, 114), pairs_of_sizes()),
-        Group::of("shares", (684, 288), shares()),
-        Group::of("weak values", (1_520, 418), weak_values()),
-        Group::of("unknown openings", (5_320, 0), unknown_openings()),
-        Group::of("other openings", (152, 0), other_openings()),
-        Group::of("each number in turn", (47_450, 27_498), each_number_in_turn()),
-        Group::of("negative numbers", (1_572, 10), negative_numbers()),
-        Group::of("two faults", (16_099, 0), two_faults()),
-        Group::of("a fault and an end", (11_368, 0), a_fault_and_an_end()),
-        Group::of("noise", (24_000, 3_644), noise()),
-        Group::of("too long", (1_254, 0), too_long()),
-        Group::of("whole", (2_432, 2_432), whole()),
-        Group::of("ends of ranges", (304, 304), ends()),
-        Group::of("counts of vectors", (2_508, 152), counts_of_vectors()),
-        Group::of("cut at each length", (9_075, 78), cut_at_each_length()),
+        Group::of("pairs of sizes", (6_630, 171), pairs_of_sizes()),
+        Group::of("shares", (1_026, 432), shares()),
+        Group::of("weak values", (3_040, 836), weak_values()),
+        Group::of("owners", (1_596, 228), owners()),
+        Group::of("unknown openings", (9_690, 0), unknown_openings()),
+        Group::of("other openings", (456, 0), other_openings()),
+        Group::of("each number in turn", (72_410, 41_429), each_number_in_turn()),
+        Group::of("negative numbers", (2_548, 22), negative_numbers()),
+        Group::of("two faults", (24_916, 0), two_faults()),
+        Group::of("a fault and an end", (17_356, 0), a_fault_and_an_end()),
+        Group::of("noise", (36_000, 5_389), noise()),
+        Group::of("too long", (1_881, 0), too_long()),
+        Group::of("whole", (3_648, 3_648), whole()),
+        Group::of("ends of ranges", (456, 456), ends()),
+        Group::of("counts of vectors", (3_762, 228), counts_of_vectors()),
+        Group::of("cut at each length", (13_753, 117), cut_at_each_length()),
     ]
 }
 
@@ -365,8 +379,8 @@ mod tests {
     fn every_answer_is_reached() {
         let counts = answers(all());
         let reached: Vec<Refusal> = counts.keys().copied().collect();
-        assert_eq!(reached, [0, 1, 2, 4, 5, 6, 7, 8, 9, 10, 11, 12, 13, 15, 16]);
-        assert_eq!(counts.values().sum::<usize>(), 128_158);
+        assert_eq!(reached, [0, 1, 2, 4, 5, 6, 7, 8, 9, 10, 11, 12, 13, 15, 16, 17]);
+        assert_eq!(counts.values().sum::<usize>(), 199_168);
         assert!(counts.values().all(|&count| count > 30), "{counts:?}");
     }
 
@@ -374,28 +388,29 @@ mod tests {
     #[test]
     fn every_answer_is_reached_by_chance() {
         let reached: Vec<Refusal> = answers(noise()).into_keys().collect();
-        assert_eq!(reached, [0, 2, 4, 5, 6, 7, 8, 9, 10, 11, 12, 13, 15, 16]);
+        assert_eq!(reached, [0, 2, 4, 5, 6, 7, 8, 9, 10, 11, 12, 13, 15, 16, 17]);
     }
 
     #[test]
     fn groups_with_few_answers() {
-        assert_eq!(answers(whole()), BTreeMap::from([(0, 2_432)]));
-        assert_eq!(answers(ends()), BTreeMap::from([(0, 304)]));
-        assert_eq!(answers(too_long()), BTreeMap::from([(13, 1_254)]));
-        assert_eq!(answers(cut_at_each_length()), BTreeMap::from([(0, 78), (2, 8_997)]));
-        assert_eq!(answers(shares()), BTreeMap::from([(0, 288), (8, 396)]));
-        assert_eq!(answers(unknown_openings()), BTreeMap::from([(1, 5_320)]));
-        assert_eq!(answers(weak_values()), BTreeMap::from([(0, 418), (16, 1_102)]));
-        assert_eq!(answers(counts_of_vectors()), BTreeMap::from([(0, 152), (2, 494), (6, 1_710), (13, 152)]));
+        assert_eq!(answers(whole()), BTreeMap::from([(0, 3_648)]));
+        assert_eq!(answers(ends()), BTreeMap::from([(0, 456)]));
+        assert_eq!(answers(too_long()), BTreeMap::from([(13, 1_881)]));
+        assert_eq!(answers(cut_at_each_length()), BTreeMap::from([(0, 117), (2, 13_636)]));
+        assert_eq!(answers(shares()), BTreeMap::from([(0, 432), (8, 594)]));
+        assert_eq!(answers(unknown_openings()), BTreeMap::from([(1, 9_690)]));
+        assert_eq!(answers(weak_values()), BTreeMap::from([(0, 836), (16, 2_204)]));
+        assert_eq!(answers(owners()), BTreeMap::from([(0, 228), (17, 1_368)]));
+        assert_eq!(answers(counts_of_vectors()), BTreeMap::from([(0, 228), (2, 741), (6, 2_565), (13, 228)]));
     }
 
     /// Three lists of each opening for each pair that a record may have; four streams of eight bits are always refused by 15.
     #[test]
     fn the_pairs_of_sizes_that_are_accepted() {
         let counts = answers(pairs_of_sizes());
-        assert_eq!((counts[&0], counts[&15]), (6 * SHAPES.len(), 20));
+        assert_eq!((counts[&0], counts[&15]), (9 * SHAPES.len(), 30));
         let of_four_wide = pairs_of_sizes().filter(|list| list.numbers[..2] == [4, 8]);
-        assert_eq!(answers(of_four_wide), BTreeMap::from([(15, 20)]));
+        assert_eq!(answers(of_four_wide), BTreeMap::from([(15, 30)]));
     }
 
     #[test]

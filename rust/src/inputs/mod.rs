@@ -1,6 +1,7 @@
 //! What readers, writers and detectors are tested on: the same in every run.
 //!
-//! - `trials` (records) and `lists` (of numbers): what one is compared with another on, in groups. `ties`: the records of one of them.
+//! - `trials` (records) and `lists` (of numbers): what one is compared with another on, in groups. `ties` and `owners`: the records of
+//!   some of them.
 //! - `cases`: the record reader's stored test; `samples`: the records of samples/.
 //! - `readings`, `eq_31` and `ieee80211`: what the papers say themselves, with what they expect.
 //! - `numbers`, `chance` and `channel`: what the others are made with.
@@ -12,6 +13,7 @@ pub mod eq_31;
 pub mod ieee80211;
 pub mod lists;
 pub mod numbers;
+pub mod owners;
 pub mod readings;
 pub mod samples;
 pub mod ties;

@@ -1,5 +1,5 @@
-//! Document 01's bench readings and its listing, and readings of document 02's W, distances and ties: the records, what they are answered
-//! with, and what is printed of them.
+//! Document 01's bench readings and its listing, and readings of document 02's W, distances, ties and owners: the records, what they are
+//! answered with, and what is printed of them.
 
 use crate::format::block::Block;
 use crate::format::encoding::{Contents, Opening};
@@ -53,8 +53,8 @@ pub fn starred() -> [Reading; 10] {
 /// The squared distances of their labels.
 pub const STARRED_DISTANCES: [i64; 10] = [1, 1, 1, 1, 9, 9, 1, 1, 1, 1];
 
-fn reading<const VECTORS: usize>(contents: Contents, answers: [Answer; VECTORS]) -> Reading {
-    Reading { contents, answers: answers.to_vec() }
+fn reading(contents: Contents, answers: impl Into<Vec<Answer>>) -> Reading {
+    Reading { contents, answers: answers.into() }
 }
 
 /// The same numbers with W behind C.
@@ -106,15 +106,98 @@ pub const WEAK_RECORD: [u8; 20] = [
 /// Its reply, byte by byte.
 pub const WEAK_REPLY: [u8; 12] = [0x43, 0x42, 0x53, 0x31, 0x02, 0x01, 0x01, 0x01, 0x04, 0x02, 0x0F, 0x0E];
 
+/// The vector of two streams for each of these owners, with C = 10.
+pub fn owned<const VECTORS: usize>(owners: [i64; VECTORS], weak: i64, share: i64) -> Contents {
+    owned_vectors(weak, share, owners.map(|owner| (owner, TWO_STREAMS)))
+}
+
+/// These vectors and their owners, with C = 10.
+fn owned_vectors<const VECTORS: usize>(weak: i64, share: i64, vectors: [(i64, [i64; 10]); VECTORS]) -> Contents {
+    let mut numbers = vec![2, 1, VECTORS as i64, 10, weak, share];
+    for (owner, vector) in vectors {
+        numbers.push(owner);
+        numbers.extend(vector);
+    }
+    Contents { opening: Opening::Three, numbers }
+}
+
+/// Readings with owners by document 02's Point 7, worked out by hand. The walk of the vector of two streams with C = 10 has 5 nodes, the
+/// leaves 2 (1), 0 (9) and 1 (5) as second, third and fifth: of an allowance of 5 or more, of 3 or 4, and of 2 this is left to report.
+pub fn shared() -> [Reading; 11] {
+    let complete = || answer(false, 5, 2, [-4, 4]);
+    let two_leaves = |nodes: i64| answer(true, nodes, 2, [-8, 10]);
+    let one_leaf = || answer(true, 2, 2, [-10, 10]);
+    [
+        // Each owner has 6: 6 - 2 for its first vector, and the 2 that are left for its second.
+        reading(owned([1, 2, 1, 2], 10, 3), [two_leaves(4), two_leaves(4), one_leaf(), one_leaf()]),
+        // 6 for owner 1, and 3 for owner 2.
+        reading(owned([1, 1, 2], 10, 3), [two_leaves(4), one_leaf(), two_leaves(3)]),
+        // Each has 8, of which the first vector may walk 6, and leaves 3.
+        reading(owned([1, 2, 2, 1], 10, 4), [complete(), complete(), two_leaves(3), two_leaves(3)]),
+        // 8 for owner 1 as before; 12 for owner 2: 12 - 4 and 12 - 5 - 2 let two be complete, and 2 are left.
+        reading(owned([1, 2, 2, 2, 1], 10, 4), [complete(), complete(), complete(), one_leaf(), two_leaves(3)]),
+        // Each has its own 4, or its own 5.
+        reading(owned([4, 3, 2, 1], 10, 4), [two_leaves(4), two_leaves(4), two_leaves(4), two_leaves(4)]),
+        reading(owned([3, 1, 4, 2], 10, 5), [complete(), complete(), complete(), complete()]),
+        // One owner for all has 12: 12 - 6, then 12 - 5 - 4, then 2 each.
+        reading(owned([4, 4, 4, 4], 10, 3), [complete(), two_leaves(3), one_leaf(), one_leaf()]),
+        reading(one_of_64(), [vec![complete(); 5], vec![two_leaves(3)], vec![one_leaf(); 10]].concat()),
+        reading(four_of_64(), [vec![complete(); 20], vec![two_leaves(3); 4], vec![one_leaf(); 40]].concat()),
+        reading(owned_reading(), [answer(true, 1, 0, [3])]),
+        reading(owned([2, 2, 3], 0, 3), [answer(true, 4, 2, [-8, 0]), answer(true, 2, 2, [0, 0]), answer(true, 3, 2, [-8, 0])]),
+    ]
+}
+
+/// One owner's 16 vectors under D = 3 have 48 nodes, 1 beyond M for each. Each of the first five takes 3 of these 16, the sixth the last.
+fn one_of_64() -> Contents {
+    owned([3; 16], 10, 3)
+}
+
+/// Owners 1 to 4 in turn over 64 vectors: the same for each.
+fn four_of_64() -> Contents {
+    owned(std::array::from_fn::<i64, 64, _>(|at| at as i64 % 4 + 1), 10, 3)
+}
+
+/// Owner 1's two vectors of two streams, C = 10, W = 7, D = 3, and another owner's between them: owner 1 is answered the same, whoever
+/// that is and whatever its vector holds. The other one may walk 3 nodes.
+pub fn beside_another() -> Vec<Reading> {
+    // R rows (1, 3), (0, 1), y = (-4, 1): the second bit 1 (0), label 1 (36), the second bit 0 (4).
+    let crossed = [1, 3, 0, 1, -4, 0, 1, 0, 0, 0];
+    // R rows (10, 0), (0, 10), y = (10, 10): label 3 (0), and all else has 400 or more.
+    let strong = [10, 0, 0, 10, 10, 0, 10, 0, 0, 0];
+    let others = [
+        (TWO_STREAMS, answer(true, 3, 2, [-8, 7])),
+        (crossed, answer(true, 3, 1, [7, -7])),
+        (strong, answer(false, 2, 3, [-10, -10])),
+    ];
+    let beside = |other: i64, (vector, found): (_, Answer)| {
+        let contents = owned_vectors(7, 3, [(1, TWO_STREAMS), (other, vector), (1, TWO_STREAMS)]);
+        reading(contents, [answer(true, 4, 2, [-8, 7]), found, answer(true, 2, 2, [-7, 7])])
+    };
+    [2, 3, 4].into_iter().flat_map(|other| others.clone().map(|vector| beside(other, vector))).collect()
+}
+
+/// M = 1, Q = 1, N = 1, C = 5, W = 3, D = 1, owner 4, y = 2, prior 10: 9 and 11, of which only the first is walked.
+pub fn owned_reading() -> Contents {
+    Contents { opening: Opening::Three, numbers: vec![1, 1, 1, 5, 3, 1, 4, 1, 2, 0, 10] }
+}
+
+/// Its record, byte by byte.
+pub const OWNED_RECORD: [u8; 15] = [0x43, 0x42, 0x52, 0x33, 0x01, 0x01, 0x01, 0x05, 0x03, 0x01, 0x04, 0x01, 0x04, 0x00, 0x14];
+
+/// Its reply, byte by byte.
+pub const OWNED_REPLY: [u8; 11] = [0x43, 0x42, 0x53, 0x31, 0x01, 0x01, 0x01, 0x01, 0x01, 0x00, 0x06];
+
 /// Readings of ties by document 02's Point 6, worked out by hand: equal metrics go to the least prior cost, and only then to the smallest
 /// number. A metric stands here as distance and prior cost.
-pub fn tied() -> [Reading; 22] {
+pub fn tied() -> [Reading; 23] {
     [
         // Labels 0 and 1 have 1 + 8 and 9 + 0.
         reading(one_stream(-2, -8, 5, 2), [answer(false, 2, 1, [5])]),
         // The walk begins with label 1.
         reading(one_stream(-2, -8, 5, 1), [answer(true, 1, 1, [-5])]),
         reading(weak(one_stream(-2, -8, 5, 1), 3), [answer(true, 1, 1, [-3])]),
+        reading(tied_with_owner(), [answer(true, 1, 1, [-3])]),
         // The other way round, 9 + 0 and 1 + 8: cost and number agree.
         reading(one_stream(2, 8, 5, 2), [answer(false, 2, 0, [-5])]),
         reading(one_stream(2, 8, 5, 1), [answer(true, 1, 0, [5])]),
@@ -142,6 +225,11 @@ pub fn tied() -> [Reading; 22] {
         reading(two_real(10, 6, 1, [0, 0], [1, 1]), [answer(false, 5, 1, [-1, -1])]),
         reading(two_real(10, 3, 1, [0, 0], [1, 1]), [answer(true, 3, 2, [-4, 10])]),
     ]
+}
+
+/// The same with owner 2.
+fn tied_with_owner() -> Contents {
+    Contents { opening: Opening::Three, numbers: vec![1, 1, 1, 5, 3, 1, 2, 1, -2, 0, -8] }
 }
 
 /// Both symbols of stream 2 have 9, 1 + 8 and 9 + 0. The second goes first, so that label 1 (18) is walked before label 0 (10): 4 nodes.

@@ -1,13 +1,13 @@
 //! Records that one detector, or reader, is compared with another on, in groups: all sizes M, Q and N, both ends of C, W and D and of
-//! every other number, ties, also those that priors decide, priors beyond the clip, channels, long walks, stopped ones with W, and damage
-//! of every sort.
+//! every other number, ties, also those that priors decide, priors beyond the clip, channels, long walks, stopped ones with W, shares of
+//! several owners, and damage of every sort.
 
 use super::cases;
 use super::chance::Chance;
 use super::channel::{any_block, opened, Plan, Sizes};
 use super::numbers::contents_by;
-use super::readings::{starred, tied, two_streams, weakened, LISTING_RECORD};
-use super::{lengths, ties as prior_ties, Group};
+use super::readings::{beside_another, shared, starred, tied, two_streams, weakened, LISTING_RECORD};
+use super::{lengths, owners, ties as prior_ties, Group};
 use crate::format::block::{Block, SHAPES};
 use crate::format::encoding::{plain, Contents, Opening, Place};
 
@@ -35,7 +35,7 @@ impl Trial {
         }
     }
 
-    fn of_block(block: &Block) -> Trial {
+    pub(super) fn of_block(block: &Block) -> Trial {
         Trial { record: block.record(), room: block.room(), suits_plain: true }
     }
 
@@ -56,7 +56,7 @@ pub(super) fn of_each_opening(turns: usize) -> impl Iterator<Item = (Opening, us
 }
 
 /// A share that the plain detector can bear: M, a little more, or up to `most` more.
-fn share(chance: &mut Chance, streams: usize, most: i64) -> i64 {
+pub(super) fn share(chance: &mut Chance, streams: usize, most: i64) -> i64 {
     let streams = streams as i64;
     match chance.draw() % 4 {
         0 => streams,
@@ -286,7 +286,7 @@ fn of_sizes(chance: &mut Chance, opening: Opening, streams: i64, bits: i64) -> V
 }
 
 /// Openings by their last byte, behind them M, Q, N and then C, W and D of every sort: at the ends of their ranges, beyond them, and
-/// over-long; and a vector of one stream of one bit.
+/// over-long; and a vector of one stream of one bit, with an owner before it where the opening has one.
 pub fn headers() -> impl Iterator<Item = Trial> {
     let over_long = vec![0x85, 0x00];
     let of = |numbers: &[i64]| numbers.iter().map(|&number| plain(number)).chain([over_long.clone()]).collect::<Vec<_>>();
@@ -297,8 +297,25 @@ pub fn headers() -> impl Iterator<Item = Trial> {
     for last in [0x30, 0x31, 0x32, 0x33, 0x34] {
         for (clip, weak) in clips.iter().flat_map(|clip| weaks.iter().map(move |weak| (clip, weak))) {
             let sizes = [&[0x43, 0x42, 0x52, last, 0x01, 0x01, 0x01], clip.as_slice(), weak].concat();
-            all.extend(shares.iter().map(|share| [&sizes, share.as_slice(), &[0x01, 0x04, 0x00, 0x14]].concat()));
+            let owner: &[u8] = if last == 0x33 { &[0x04] } else { &[] };
+            all.extend(shares.iter().map(|share| [&sizes, share.as_slice(), owner, &[0x01, 0x04, 0x00, 0x14]].concat()));
         }
+    }
+    all.into_iter().map(Trial::of)
+}
+
+/// Two vectors of one stream of one bit, and before each an owner of every sort: in range, beyond it, over-long and cut off. The first
+/// vector's diagonal entry and its prior are in range or beyond it.
+pub fn owner_numbers() -> impl Iterator<Item = Trial> {
+    let malformed = [vec![0x84, 0x00], vec![0x84, 0x80, 0x80, 0x80], vec![0x84, 0x80, 0x80, 0x80, 0x00], vec![]];
+    let numbers = (0..=5).chain([127, 128, 132, 260, 65_540, 268_435_455]).map(plain);
+    let owners: Vec<Vec<u8>> = numbers.chain(malformed).collect();
+    let vectors: [&[u8]; 3] = [&[0x01, 0x04, 0x00, 0x14], &[0x00, 0x04, 0x00, 0x14], &[0x01, 0x04, 0x00, 0x80, 0x80, 0x80, 0x01]];
+    let sizes = [&Opening::Three.bytes(), [0x01, 0x01, 0x02, 0x05, 0x03, 0x01].as_slice()].concat();
+    let mut all = vec![];
+    for (first, second) in owners.iter().flat_map(|first| owners.iter().map(move |second| (first, second))) {
+        all.extend(vectors.map(|vector| [&sizes, first.as_slice(), vector, second, vectors[0]].concat()));
+        all.push([&sizes, first.as_slice(), vectors[0], second].concat());
     }
     all.into_iter().map(Trial::of)
 }
@@ -308,35 +325,39 @@ pub fn reader_cases() -> impl Iterator<Item = Trial> {
     cases::all().into_iter().map(|case| Trial::of(case.bytes))
 }
 
-/// Document 01's starred readings, their edges, and the listing; and the readings with W and of ties.
+/// Document 01's starred readings, their edges, and the listing; and the readings with W, of ties, and with owners.
 pub fn readings() -> impl Iterator<Item = Trial> {
     let edges = [two_streams(10, 1), two_streams(10, 2), two_streams(16_777_216, 5)];
-    let readings = starred().into_iter().chain(weakened()).chain(tied()).map(|reading| reading.contents).chain(edges);
-    readings.map(|contents| contents.record()).chain([LISTING_RECORD.to_vec()]).map(Trial::of)
+    let readings = starred().into_iter().chain(weakened()).chain(tied()).chain(shared()).chain(beside_another());
+    let contents = readings.map(|reading| reading.contents).chain(edges);
+    contents.map(|contents| contents.record()).chain([LISTING_RECORD.to_vec()]).map(Trial::of)
 }
 
 /// The groups, in the order in which a slip is looked for.
 pub fn groups() -> Vec<Group<Trial>> {
     vec![
-        Group::of("readings", (52, 50), readings()),
-        Group::of("the record reader's cases", (2_868, 832), reader_cases()),
-        Group::of("openings, C, W and D", (1_680, 33), headers()),
+        Group::of("readings", (73, 71), readings()),
+        Group::of("the record reader's cases", (3_352, 896), reader_cases()),
+        Group::of("openings, C, W and D", (1_680, 66), headers()),
+        Group::of("numbers of owners", (1_024, 16), owner_numbers()),
         Group::of("weak values", (9_500, 9_500), weak_values()),
+        Group::of("owners", (5_700, 5_700), owners::records()),
+        Group::of("owners on channels", (1_900, 1_900), owners::channels()),
         Group::of("ties", (9_500, 9_500), ties()),
-        Group::of("ties that priors decide", (4_940, 4_940), prior_ties::records()),
+        Group::of("ties that priors decide", (7_410, 7_410), prior_ties::records()),
         Group::of("priors beyond the clip", (9_500, 9_500), priors_beyond_the_clip()),
         Group::of("full range", (9_500, 9_500), full_range()),
-        Group::of("ends of ranges", (380, 380), ends()),
+        Group::of("ends of ranges", (570, 570), ends()),
         Group::of("channels", (4_000, 4_000), channels()),
-        Group::of("every count of vectors", (2_432, 2_432), every_count()),
+        Group::of("every count of vectors", (3_648, 3_648), every_count()),
         Group::of("weak values on channels", (1_900, 1_900), weak_channels()),
-        Group::of("whole walks", (6_000, 6_000), whole_walks()),
-        Group::of("long walks", (128, 128), long_walks()),
-        Group::of("every pair of sizes", (1_680, 190), widths()),
-        Group::of("damaged", (19_000, 3_474), damaged()),
-        Group::of("cut at each length", (5_599, 76), cut_at_each_length()),
-        Group::of("over-long numbers", (3_650, 0), over_long_numbers()),
-        Group::of("longest walks", (168, 168), longest_walks()),
+        Group::of("whole walks", (9_000, 9_000), whole_walks()),
+        Group::of("long walks", (192, 192), long_walks()),
+        Group::of("every pair of sizes", (2_520, 285), widths()),
+        Group::of("damaged", (28_500, 5_207), damaged()),
+        Group::of("cut at each length", (8_378, 114), cut_at_each_length()),
+        Group::of("over-long numbers", (5_570, 0), over_long_numbers()),
+        Group::of("longest walks", (252, 252), longest_walks()),
     ]
 }
 
@@ -352,7 +373,7 @@ mod tests {
     /// The longest walks do not, and a few of the reader's cases and of the damaged records.
     #[test]
     fn all_but_a_few_suit_the_plain_detector() {
-        assert_eq!(all().count(), 92_477);
-        assert_eq!(all().filter(|trial| trial.suits_plain).count(), 92_142);
+        assert_eq!(all().count(), 123_669);
+        assert_eq!(all().filter(|trial| trial.suits_plain).count(), 123_236);
     }
 }

@@ -13,7 +13,7 @@ use Rattle.block.specs.Reading.{weakCount, partAt, countAt, got, into}
 use Rattle.block.specs.declared.Read.the-variants.{Ended}
 use Rattle.block.specs.declared.Part.the-variants.{Limits}
 use Rattle.block.proofs.Ranges.{between-plain, allowed-width}
-use Rattle.block.proofs.Parts.{weak-few, all-fit, plain-most, width-most, label-most}
+use Rattle.block.proofs.Parts.{weak-few, own-few, all-fit, plain-most, width-most, label-most}
 use Rattle.block.proofs.Stored.{limits-numbers, limits-ended, limits-refused}
 use Rattle.reader.proofs.read_limited.Statement.{statement}
 use Rattle.reader.proofs.read_limited.Tie as tie
@@ -45,27 +45,28 @@ vectors c =
     let f : SFits w32 (getD (c .before .before .before .before .before .before .args .numbers .now) 2 (pos 0)) = sfits-of (c .before .count-of-arg2 .given) in
     simp toZ-ofZ at (c .count-of2 .ensures)
 
-streams : (c : tie.After-count-of3) → c .count-of3 .result ≡ countAt 0 (c .before .before .before .before .before .before .before .before .before .before .before .before .before .before .before .args .numbers .now)
+streams : (c : tie.After-count-of3) → c .count-of3 .result ≡ countAt 0 (c .before .before .before .before .before .before .before .before .before .before .before .before .before .before .before .before .args .numbers .now)
 streams c =
-    let f : SFits w32 (getD (c .before .before .before .before .before .before .before .before .before .before .before .before .before .before .before .args .numbers .now) 0 (pos 0)) = sfits-of (c .before .before .before .before .before .before .before .before .before .before .before .before .before .m .given) in
+    let f : SFits w32 (getD (c .before .before .before .before .before .before .before .before .before .before .before .before .before .before .before .before .args .numbers .now) 0 (pos 0)) = sfits-of (c .before .before .before .before .before .before .before .before .before .before .before .before .before .before .m .given) in
     simp toZ-ofZ at (c .count-of3 .ensures)
 
 read-vectors-requires : tie.Need-read-vectors-requires
 read-vectors-requires c κs =
-    let s = c .before .before .before .before .before .before .before .before .before .before .before .before .before .before .before .before in
+    let s = c .before .before .before .before .before .before .before .before .before .before .before .before .before .before .before .before .before in
     let l = s .args .numbers .now in
     let m : c .before .count-of3 .result ≤ mostStreams = rw (streams (c .before)) (plain-most (between-plain 1 mostStreams (getD l 0 (pos 0)) (s .pre .stored .streams))) in
-    let q : c .before .before .before .before .before .before .before .before .before .before .before .before .count-of .result ≤ mostWidth = rw (width (c .before .before .before .before .before .before .before .before .before .before .before .before)) (width-most (allowed-width (getD l 0 (pos 0)) (getD l 1 (pos 0)) (s .pre .width))) in
-    let bits : c .before .count-of3 .result * c .before .before .before .before .before .before .before .before .before .before .before .before .count-of .result ≤ mostBits =
-    rw (streams (c .before), width (c .before .before .before .before .before .before .before .before .before .before .before .before)) (label-most (getD l 0 (pos 0)) (getD l 1 (pos 0)) (s .pre .stored .streams) (s .pre .width)) in
-    let n : c .before .before .before .before .before .before .before .before .before .before .count-of2 .result ≤ mostVectors = rw (vectors (c .before .before .before .before .before .before .before .before .before .before)) (plain-most (between-plain 1 mostVectors (getD l 2 (pos 0)) (s .pre .vectors))) in
-    rw (c .before .before .header-size .ensures) ((m, q, bits), all-fit (s .args .layout) _ _ _ m bits n)
+    let q : c .before .before .before .before .before .before .before .before .before .before .before .before .before .count-of .result ≤ mostWidth = rw (width (c .before .before .before .before .before .before .before .before .before .before .before .before .before)) (width-most (allowed-width (getD l 0 (pos 0)) (getD l 1 (pos 0)) (s .pre .width))) in
+    let bits : c .before .count-of3 .result * c .before .before .before .before .before .before .before .before .before .before .before .before .before .count-of .result ≤ mostBits =
+    rw (streams (c .before), width (c .before .before .before .before .before .before .before .before .before .before .before .before .before)) (label-most (getD l 0 (pos 0)) (getD l 1 (pos 0)) (s .pre .stored .streams) (s .pre .width)) in
+    let n : c .before .before .before .before .before .before .before .before .before .before .before .count-of2 .result ≤ mostVectors = rw (vectors (c .before .before .before .before .before .before .before .before .before .before .before)) (plain-most (between-plain 1 mostVectors (getD l 2 (pos 0)) (s .pre .vectors))) in
+    rw (c .before .before .before .header-size .ensures, c .before .before .own-count .ensures)
+    ((m, q, bits), own-few (s .args .layout), all-fit (s .args .layout) _ _ _ m bits n)
 
 returns : tie.Need-returns
 returns c =
-    let s = c .before .before .before .before .before .before .before .before .before .before .before .before .before .before .before .before .before in
-    let n = c .before .before .before .before .before in
-    rw (c .before .before .before .header-size .ensures, streams (c .before .before), width (c .before .before .before .before .before .before .before .before .before .before .before .before .before), vectors (c .before .before .before .before .before .before .before .before .before .before .before)) at (c .read-vectors .ensures)
+    let s = c .before .before .before .before .before .before .before .before .before .before .before .before .before .before .before .before .before .before in
+    let n = c .before .before .before .before .before .before in
+    rw (c .before .before .before .before .header-size .ensures, c .before .before .before .own-count .ensures, streams (c .before .before), width (c .before .before .before .before .before .before .before .before .before .before .before .before .before .before), vectors (c .before .before .before .before .before .before .before .before .before .before .before .before)) at (c .read-vectors .ensures)
     ∙ sym (limits-ended (s .args .layout) _ _ _ _ _ (s .pre) (stored n))
 
 returns-2 : tie.Need-returns-2
@@ -89,6 +90,7 @@ read-limited-spec =
     (λ c κs. search needs)
     read-part-requires
     (λ c. c .match .keys1)
+    (λ c κs. search needs)
     (λ c κs. search needs)
     (λ c κs. search needs)
     read-vectors-requires

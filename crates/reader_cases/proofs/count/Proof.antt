@@ -39,14 +39,14 @@ bits c =
     mul-le-mul h k
 
 bounds : (c : tie.After-smaller)
-    → Sums (c .before .before .before .before .before .size .result) (c .before .size3 .result) (c .smaller .result)
-bounds c = sums _ _ _ (omega arith) (omega arith) (omega (arith, c .smaller .ensures))
+    → Sums (c .before .before .before .before .before .before .before .args .own) (c .before .before .before .before .before .size .result) (c .before .size3 .result) (c .smaller .result)
+bounds c = sums _ _ _ _ (c .before .before .before .before .before .before .before .pre .1) (omega arith) (omega arith) (omega (arith, c .smaller .ensures))
 
 returns : tie.Need-returns
 returns c =
     let n = c .before in
     let q = n .before .before in
-    (rw (c .smaller .ensures, streams (q .before .before), width q, vectors n), omega (arith, bounds c .vectors, c .before .before .before .before .before .before .before .pre))
+    (rw (c .smaller .ensures, streams (q .before .before), width q, vectors n), omega (arith, bounds c .vectors, c .before .before .before .before .before .before .before .pre .0))
 
 pub count-spec : {M : Type 1} → statement M
 count-spec =
@@ -64,6 +64,7 @@ count-spec =
     (λ c. search needs)
     (λ c. omega (arith, bounds c .square))
     (λ c. omega (arith, bounds c .square, c .smaller .ensures))
+    (λ c. omega (arith, bounds c .square, c .smaller .ensures, c .before .before .before .before .before .before .before .pre .1))
     (λ c. omega (arith, bounds c .vectors))
-    (λ c. omega (arith, bounds c .vectors, c .before .before .before .before .before .before .before .pre))
+    (λ c. omega (arith, bounds c .vectors, c .before .before .before .before .before .before .before .pre .0))
     returns)

@@ -4,6 +4,7 @@ use mathlib.Core.Path.{sym, _∙_}
 use native.Mathlib.Omega.{arith}
 use borrow.Author.Needs.{needs}
 use Rattle.block.specs.Reading.{headerSize}
+use Rattle.block.proofs.Parts.{own-few}
 use Rattle.block.proofs.CalledFor.{record-header, record-vector, called-at, called-few}
 use Rattle.records.specs.Steps.{Sized}
 use Rattle.records.proofs.Places.{sized}
@@ -29,21 +30,22 @@ in-range c =
     let s = c .before .before in
     sized (s .args .layout) (s .args .numbers .now) (s .args .i) (omega (arith, s .pre .inside)) (s .pre .before) (behind c)
 
-vector-kind-requires : tie.Need-vector-kind-requires
-vector-kind-requires c κs =
-    let m = c .before in
+owned-kind-requires : tie.Need-owned-kind-requires
+owned-kind-requires c κs =
+    let m = c .before .before in
     let r = in-range (m .before) in
-    rw (m .count-at .ensures, c .count-at2 .ensures) (r .stream, r .streams, r .width, r .label)
+    let o = m .before .before .before .args .layout in
+    rw (m .count-at .ensures, c .before .count-at2 .ensures, c .own-count .ensures) (own-few o, r .stream, r .streams, r .width, r .label)
 
 returns-2 : tie.Need-returns-2
 returns-2 c =
-    let q = c .before in
+    let q = c .before .before in
     let m = q .before in
     let e = m .before in
     let s = e .before .before in
     let o = s .args .layout in
     let l = s .args .numbers .now in
-    (rw (m .count-at .ensures, q .count-at2 .ensures, e .before .header-size .ensures) at (c .vector-kind .ensures))
+    (rw (m .count-at .ensures, q .count-at2 .ensures, e .before .header-size .ensures, c .before .own-count .ensures) at (c .owned-kind .ensures))
     ∙ sym (called-at o l (s .args .i) (s .pre .called) ∙ record-vector o l (s .args .i) (behind e) (omega (arith, s .pre .called, called-few o l)))
 
 pub kind-at-spec : {M : Type 1} → statement M
@@ -57,5 +59,6 @@ kind-at-spec =
     (λ c. search needs)
     (λ c κs. omega (arith, in-range (c .before) .header))
     (λ c. search needs)
-    vector-kind-requires
+    (λ c κs. search needs)
+    owned-kind-requires
     returns-2)

@@ -33,11 +33,13 @@ refusal-of-spec =
     (λ c. search needs)
     (λ c. search needs)
     (λ c. search needs)
+    (λ c. search needs)
     returns-2
     returns-3
     (λ c. search needs)
     (λ c. search needs)
     (λ c. rw (c .enum-told5 .given .1))
+    (λ c. search needs)
     (λ c. search needs)
     (λ c. search needs)
     (λ c. search needs)

@@ -87,7 +87,7 @@ impl<const A: usize, const B: usize> Children<A, B> {
 /// The key of a row's child, by the row's part and the key of the imaginary axis.
 #[inline(always)]
 fn head(re: Packed, im: Key, row: usize) -> Key {
-    re + (im >> 2) & !15 | row as Key
+    (re + (im >> 2)) & !15 | row as Key
 }
 
 /// A key's axis label.

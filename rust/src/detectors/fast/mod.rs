@@ -21,44 +21,56 @@ mod reading;
 mod search;
 
 use crate::format::reply::{room, OPENING};
-use reading::Sizes;
+use reading::Record;
 use search::Search;
 
 /// The reply's length, or minus the refusal number.
 pub fn detect(record: &[u8], reply: &mut [u8]) -> i64 {
-    let (sizes, numbers) = match reading::read(record) {
-        Ok(read) => read,
+    let record = match reading::read(record) {
+        Ok(record) => record,
         Err(refusal) => return -i64::from(refusal),
     };
+    let sizes = &record.sizes;
     if reply.len() < room(sizes.streams, sizes.bits, sizes.vectors) {
         return -14;
     }
     let length = match sizes.bits {
-        1 => answer_all::<2, 1>(&sizes, &numbers, reply),
-        2 => answer_all::<2, 2>(&sizes, &numbers, reply),
-        4 => answer_all::<4, 4>(&sizes, &numbers, reply),
-        6 => answer_all::<8, 8>(&sizes, &numbers, reply),
-        _ => answer_all::<16, 16>(&sizes, &numbers, reply),
+        1 => answer_all::<2, 1>(&record, reply),
+        2 => answer_all::<2, 2>(&record, reply),
+        4 => answer_all::<4, 4>(&record, reply),
+        6 => answer_all::<8, 8>(&record, reply),
+        _ => answer_all::<16, 16>(&record, reply),
     };
     length as i64
 }
 
-/// Searches the vectors in record order and writes the reply; its length. The first may walk N x (D - M) + M nodes, each next one
-/// what the one before it has left, and M.
-fn answer_all<const A: usize, const B: usize>(sizes: &Sizes, numbers: &[i32], reply: &mut [u8]) -> usize {
+/// Searches the vectors in record order and writes the reply; its length. Of an owner's n vectors the first may walk n x (D - M) + M
+/// nodes, each next one what the one before it has left, and M.
+fn answer_all<const A: usize, const B: usize>(record: &Record, reply: &mut [u8]) -> usize {
+    let sizes = &record.sizes;
     reply[..OPENING.len()].copy_from_slice(&OPENING);
     let mut reply = Reply { bytes: reply, length: OPENING.len() };
     [sizes.streams, sizes.bits, sizes.vectors].into_iter().for_each(|size| reply.put(size as u32));
     let streams = sizes.streams as u32;
     let mut search = Search::<A, B>::new(sizes.streams, i64::from(sizes.clip), i64::from(sizes.weak));
-    let mut left = sizes.vectors as u32 * (sizes.share - streams);
-    for vector in numbers.chunks_exact(sizes.vector_numbers()).take(sizes.vectors) {
-        let allowance = left + streams;
+    let mut left = left_beyond(record);
+    for (vector, &owner) in record.numbers.chunks_exact(sizes.vector_numbers()).zip(record.owners()) {
+        let left = &mut left[usize::from(owner) - 1];
+        let allowance = *left + streams;
         search.prepare(vector);
-        left = search.run(allowance);
-        search.write(&mut reply, allowance - left);
+        *left = search.run(allowance);
+        search.write(&mut reply, allowance - *left);
     }
     reply.length
+}
+
+/// For each owner the nodes that it has beyond M for each of its vectors to come; before the first vector these are D - M for each.
+fn left_beyond(record: &Record) -> [u32; 4] {
+    let mut left = [0; 4];
+    for &owner in record.owners() {
+        left[usize::from(owner) - 1] += record.sizes.share - record.sizes.streams as u32;
+    }
+    left
 }
 
 /// The reply's bytes, as far as they are written.

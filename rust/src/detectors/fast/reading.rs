@@ -1,4 +1,4 @@
-//! Reading a record quickly, with checks of its own: its sizes, and its vectors' numbers in record order.
+//! Reading a record quickly, with checks of its own: its sizes, and its vectors' owners and numbers in record order.
 
 use crate::format::encoding::Opening;
 use crate::format::record::Refusal;
@@ -20,20 +20,40 @@ impl Sizes {
     }
 }
 
+/// A record that is accepted: its sizes, and its vectors' numbers but for their owners.
+pub struct Record {
+    pub sizes: Sizes,
+    /// The vectors' owners, 1 to 4; behind the last vector they say nothing. Where the record names none, it is 1.
+    owners: [u8; 64],
+    pub numbers: Vec<i32>,
+}
+
+impl Record {
+    /// An owner for each vector.
+    pub fn owners(&self) -> &[u8] {
+        &self.owners[..self.sizes.vectors]
+    }
+}
+
 /// What is left of the record.
 struct Rest<'a>(&'a [u8]);
 
-/// The record's sizes, and its vectors' numbers.
-pub fn read(record: &[u8]) -> Result<(Sizes, Vec<i32>), Refusal> {
+/// The record of these bytes.
+pub fn read(record: &[u8]) -> Result<Record, Refusal> {
     let opening = Opening::of(record).ok_or(1_u32)?;
     let mut rest = Rest(&record[Opening::LENGTH..]);
     let sizes = rest.sizes(opening.has_weak())?;
+    let has_owners = opening.has_owners();
+    let mut owners = [1; 64];
     let mut numbers = Vec::with_capacity(sizes.vectors * sizes.vector_numbers());
-    for _ in 0..sizes.vectors {
+    for owner in &mut owners[..sizes.vectors] {
+        if has_owners {
+            *owner = rest.plain(1, 4, 17)? as u8;
+        }
         rest.vector(&mut numbers, &sizes)?;
     }
     if rest.0.is_empty() {
-        Ok((sizes, numbers))
+        Ok(Record { sizes, owners, numbers })
     } else {
         Err(13)
     }

@@ -3,24 +3,28 @@
 use super::{accepted, refused, Case, Intent};
 use crate::format::encoding::{Contents, Opening};
 use crate::format::reply;
-use crate::inputs::readings::{starred, two_streams, LISTING_RECORD as RECORD, WEAK_RECORD};
+use crate::inputs::readings::{starred, two_streams, LISTING_RECORD as RECORD, OWNED_RECORD, WEAK_RECORD};
 use crate::inputs::with;
 
 /// Row 1: records too short for an opening, and each of its bytes different.
 pub fn openings() -> Vec<Case> {
     let short = (0..4).map(|length| refused(format!("{length} bytes"), RECORD[..length].to_vec(), 1));
     let other = |record: &'static [u8], at: usize| {
-        [record[at] ^ 1, record[at] ^ 0x80, 0x00, 0xFF]
+        [record[at] ^ 4, record[at] ^ 0x80, 0x00, 0xFF]
             .map(|byte| refused(format!("opening byte {} is {byte:02X}", at + 1), with(record, at, byte), 1))
     };
-    let other = (0..4).flat_map(move |at| [other(&RECORD, at), other(&WEAK_RECORD, at)]).flatten();
-    let last = [0x30, 0x33, 0x34].into_iter().flat_map(|byte| {
+    let other = (0..4).flat_map(move |at| [other(&RECORD, at), other(&WEAK_RECORD, at), other(&OWNED_RECORD, at)]).flatten();
+    let last = [0x30, 0x34, 0x35].into_iter().flat_map(|byte| {
         let case = |record: &[u8]| refused(format!("opening's last byte {byte:02X}"), with(record, 3, byte), 1);
-        [case(&RECORD), case(&WEAK_RECORD), case(&RECORD[..4])]
+        [case(&RECORD), case(&WEAK_RECORD), case(&OWNED_RECORD), case(&RECORD[..4])]
     });
     let exchanged = [
-        refused("the listing with the other opening".to_string(), with(&RECORD, 3, 0x32), 8),
-        refused("a record with W, and the other opening".to_string(), with(&WEAK_RECORD, 3, 0x31), 9),
+        refused("the listing, opening 2".to_string(), with(&RECORD, 3, 0x32), 8),
+        refused("the listing, opening 3".to_string(), with(&RECORD, 3, 0x33), 8),
+        refused("a record with W, opening 1".to_string(), with(&WEAK_RECORD, 3, 0x31), 9),
+        refused("a record with W, opening 3".to_string(), with(&WEAK_RECORD, 3, 0x33), 2),
+        refused("a record with an owner, opening 1".to_string(), with(&OWNED_RECORD, 3, 0x31), 13),
+        refused("a record with an owner, opening 2".to_string(), with(&OWNED_RECORD, 3, 0x32), 13),
     ];
     let backwards: Vec<u8> = Opening::One.bytes().into_iter().rev().collect();
     let more = [

@@ -6,7 +6,7 @@ use crate::format::encoding::{Opening, Place};
 use crate::format::record::MOST_BYTES;
 use crate::inputs::numbers::row;
 
-/// Rows 9 to 12: every number of the vectors at both ends of its range and beyond them.
+/// Rows 9 to 12, and 17 where there are owners: every number of the vectors at both ends of its range and beyond them.
 pub fn range_ends(of: &str, record: &Parts) -> Vec<Case> {
     let sizes = record.opening.sizes().len();
     (sizes..record.count()).flat_map(|at| range_ends_at(of, record, at)).collect()
@@ -21,7 +21,7 @@ fn range_ends_at(of: &str, record: &Parts, at: usize) -> Vec<Case> {
         Case { about, bytes: record.with_number(at, number).bytes(), intent }
     };
     let (lowest, highest) = match place {
-        Place::Diagonal => (0, GREATEST),
+        Place::Diagonal | Place::Owner => (0, GREATEST),
         _ => (-(GREATEST + 1) / 2, GREATEST / 2),
     };
     vec![
@@ -34,8 +34,8 @@ fn range_ends_at(of: &str, record: &Parts, at: usize) -> Vec<Case> {
     ]
 }
 
-/// Rows 2 to 13, and 16 where there is W, in a record of several streams and two vectors, each at the first and the last place where it
-/// can occur.
+/// Rows 2 to 13, 16 where there is W, and 17 where there are owners, in a record of several streams and two vectors, each at the first
+/// and the last place where it can occur.
 pub fn rows_of_the_table(of: &str, record: &Parts) -> Vec<Case> {
     let last = record.count() - 1;
     let about = |what: &str| format!("{of}: {what}");
@@ -58,29 +58,29 @@ pub fn rows_of_the_table(of: &str, record: &Parts) -> Vec<Case> {
     [whole].into_iter().chain(malformed).chain(Place::all(record.opening).flat_map(beyond)).collect()
 }
 
-/// The largest records: whole and with a byte more; that with W also a byte less, and turned back at its last prior.
+/// The largest record of document 01; and the longest of all, which has owners, whole, with a byte more, with a byte less, and turned
+/// back at its last owner and at its last prior.
 pub fn largest_records() -> Vec<Case> {
-    let whole = |record: &Parts| {
-        let about = format!("largest of opening {}", record.opening.number());
-        [refused(format!("{about} and a byte"), record.bytes_and(&[0x00]), 13), accepted(about, record.bytes())]
-    };
-    let record = largest(Opening::Two);
+    let record = largest(Opening::Three);
     let last = record.count() - 1;
-    let turned_back = [
-        refused("largest less a byte".to_string(), record.bytes()[..MOST_BYTES - 1].to_vec(), 2),
-        refused("largest, last prior over-long".to_string(), record.with(last, &OVER_LONG).bytes(), 3),
-        refused("largest, last prior out of range".to_string(), record.with_beyond(last).bytes(), 12),
-    ];
-    Opening::ALL.into_iter().flat_map(|opening| whole(&largest(opening))).chain(turned_back).collect()
+    let last_owner = record.last_place(Place::Owner);
+    vec![
+        accepted("largest of opening 1".to_string(), largest(Opening::One).bytes()),
+        accepted("longest".to_string(), record.bytes()),
+        refused("longest and a byte".to_string(), record.bytes_and(&[0x00]), 13),
+        refused("longest less a byte".to_string(), record.bytes()[..MOST_BYTES - 1].to_vec(), 2),
+        refused("longest, last owner out of range".to_string(), record.with_beyond(last_owner).bytes(), 17),
+        refused("longest, last prior out of range".to_string(), record.with_beyond(last).bytes(), 12),
+    ]
 }
 
-/// Rows 9 to 12 in a record of 64 vectors, each at the last place where it can occur.
+/// The rows of a vector's numbers in a record of 64 vectors, each at the last place where it can occur.
 pub fn last_places(record: &Parts) -> Vec<Case> {
     let beyond = |place: Place| {
         let at = record.last_place(place);
         refused(format!("64 vectors: number {} ({place:?})", at + 1), record.with_beyond(at).bytes(), row(place))
     };
-    Place::OF_VECTORS.map(beyond).into()
+    record.opening.of_vectors().iter().copied().map(beyond).collect()
 }
 
 /// Rows 2 and 3: every form of a number, at M, C and D, at the first diagonal and at the last prior, and at the record's end.

@@ -19,8 +19,8 @@ limit-run-requires : tie.Need-limit-run-requires
 unfolding runsOf
 limit-run-requires c κs = rw (c .before .part2 .given .1) at (c .before .before .before .pre .1)
 
-vector-run-requires : tie.Need-vector-run-requires
-vector-run-requires c κs =
+owned-run-requires : tie.Need-owned-run-requires
+owned-run-requires c κs =
     let s = c .before .before .before in
     let small = rw (c .before .part3 .given .1) at (s .pre .0) in
     (small, omega (arith, rw (c .before .part3 .given .1, vector-runs) at (s .pre .1)))
@@ -52,8 +52,8 @@ run-at-spec =
     (λ c. search needs)
     limit-run-requires
     (λ c. search needs)
-    vector-run-requires
+    owned-run-requires
     returns
     returns-2
     returns-3
-    (λ c. rw (c .before .before .part3 .given .1) (c .vector-run .ensures)))
+    (λ c. rw (c .before .before .part3 .given .1) (c .owned-run .ensures)))

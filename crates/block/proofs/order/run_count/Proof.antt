@@ -9,7 +9,7 @@ use Rattle.block.proofs.Runs.{vector-runs}
 use Rattle.block.proofs.order.run_count.Statement.{statement}
 use Rattle.block.proofs.order.run_count.Tie as tie
 
-streams : (c : tie.After-known-told) → c .before .part .given .0 .0 ≤ mostStreams
+streams : (c : tie.After-known-told) → c .before .part .given .0 .1 .0 ≤ mostStreams
 streams c = rw (c .before .part .given .1) at (c .before .before .before .pre) .0
 
 returns : tie.Need-returns
@@ -37,4 +37,4 @@ run-count-spec =
     returns
     returns-2
     returns-3
-    (λ c. rw (c .before .part .given .1) (sym (vector-runs _ _))))
+    (λ c. rw (c .before .part .given .1) (sym (vector-runs _ _ _))))

@@ -1,0 +1,6 @@
+pub mod Owners
+pub mod Sums
+pub mod Demand
+pub mod Isolation
+pub mod Spares
+pub mod Readings
