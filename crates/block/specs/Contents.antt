@@ -45,7 +45,7 @@ rowsOf m q numbers = rowsFrom m q numbers (drop (m * m) numbers) (drop (m * m + 
 abbrev pub vectorStart : Layout → List ℤ → ℕ → ℕ
 vectorStart layout numbers k = headerSize layout + k * ownedSize (ownCount layout) (countAt 0 numbers) (countAt 1 numbers)
 
--- Its owner: "an owner number 1 to 4 before each vector", and of an older record "one owner for all vectors"
+-- Its owner: "an owner number 1 to 4 before each vector"; all vectors of an older record have one, owner 1
 abbrev pub ownerAt : Layout → List ℤ → ℕ → ℕ
 ownerAt Base numbers k = 1
 ownerAt Weakened numbers k = 1

@@ -2,11 +2,10 @@
 use super::Part;
 use super::Run;
 use refusals::Kind;
-ghost use Rattle.block.specs.Reading.{vectorRuns};
 ghost use mathlib.Core.Path.{_≡_};
 ghost use Prim.Native.Nat.{_+_, _*_, _<_};
 ghost use lib.ListN.{length, getD};
-ghost use Rattle.block.specs.Reading.{noRun, Small, runsOf};
+ghost use Rattle.block.specs.Reading.{noRun, Small, runsOf, vectorRuns};
 
 // The i-th run of Q, N and C.
 fn size_run(m: i32, i: usize) -> Run

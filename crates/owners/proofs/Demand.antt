@@ -60,7 +60,7 @@ own-all o [] (x ∷ xs) h e = absurd (omega arith)
 own-all o (p ∷ ps) [] h e = absurd (omega arith)
 own-all o (p ∷ ps) (x ∷ xs) h e = rw (eq-eqb p o (h .0)) (ap (_∷_ x) (own-all o ps xs (h .1) (omega arith)))
 
--- "one owner for all vectors": the answers are those of document 01's one list
+-- Where all vectors have one owner the answers are those of document 01's one list
 pub one-owner : (b : Block) (o : ℕ) → Every (λ (p : ℕ). p ≡ o) (b .owners) → length (b .owners) ≡ length (b .vectors)
     → sharedAnswers b ≡ answers b
 one-owner b o h e =
