@@ -141,7 +141,7 @@ def main():
             turned = in_proof(text, new, keep)
             turned = re.sub(r"(?<=\w\.)([a-z][\w-]*-[\w-]*)(?![\w'-])", lambda m: dashed.get(m.group(1), m.group(1)), turned)
         elif path.endswith(".rt"):
-            turned = in_source(text, new)
+            turned = in_source(text, {k: v for k, v in new.items() if k not in TURNED})
         elif path.endswith(".edit"):
             turned = "\n".join(in_line(l, {k: v for k, v in new.items() if k not in TURNED}) if l.startswith(("old:", "new:")) else in_words(l, new) for l in text.split("\n"))
         else:

@@ -110,7 +110,7 @@ pub fn fill(q: usize, partial: u64, axes: &[u64; AXES], keys: &mut [u64])
 {
     let shared = partial * COST_ROOM;
     metric::fill_children(q, shared, axes, keys);
-    let column = least_first_lem(axes, AXES / 2, 1 << (q / 2));
+    let column = least_first(axes, AXES / 2, 1 << (q / 2));
     let base = shared + axes[AXES / 2 + column];
     let rows: usize = 1 << (q - q / 2);
     fill_least(rows, base, axes, 1 << q, keys);
@@ -123,7 +123,7 @@ pub fn least_row(q: usize, keys: &[u64]) -> Row
     ensures { LeastRow q keys.now result.row result.key }
 {
     let n: usize = 1 << q;
-    let row = least_first_lem(keys, n, 1 << (q - q / 2));
+    let row = least_first(keys, n, 1 << (q - q / 2));
     Row {
         row,
         key: keys[n + row],
