@@ -1,6 +1,8 @@
 // A symbol's two axes: what each axis label adds to the partial metrics of a node's children (document 01, "The metric"), and to their keys.
 // What of it depends on the vector alone is made once for the vector, in a lent table; the rest at the node, in a lent array of both axes, and
 // shared by a row or a column of the constellation.
+#![tactic(auto)]
+
 mod parts;
 mod table;
 

@@ -136,7 +136,7 @@ fn fill_costs(numbers: &[i32], from: usize, w: usize, at: usize, tables: &mut [i
 }
 
 // Where the amplitudes of an axis stand in the points: the place of the first, how far they are apart, and the bits of their labels.
-#[derive(Drop)]
+#[derive(Clone, Copy)]
 struct Amplitudes {
     first: usize,
     step: usize,

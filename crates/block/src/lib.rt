@@ -1,5 +1,7 @@
 // The block record: which numbers it has, how many and in which order, by its layout and its own first numbers; and the counts that a reader of
 // the numbers asks for.
+#![tactic(auto)]
+
 mod order;
 
 ghost use Rattle.std.specs.Prelude.{◌≡◌, ◌+◌, ◌*◌, ◌<◌, ◌≤◌, nat_abs, length};
@@ -17,7 +19,7 @@ pub const MOST_BYTES: usize = 8275;
 
 // The layouts of a record, which its opening tells: document 01's; document 02's, in which W follows C; and the one in which, besides, an owner's
 // number stands before each vector.
-#[derive(Drop)]
+#[derive(Clone, Copy)]
 pub enum Layout {
     Base,
     Weakened,
@@ -25,28 +27,28 @@ pub enum Layout {
 }
 
 // A number taken and the place after it, or why the record is turned back there.
-#[derive(Drop)]
+#[derive(Clone, Copy)]
 pub enum One {
     Taken(i32, usize),
     Turned(Refusal),
 }
 
 // The place where the numbers ended, or why the record is turned back.
-#[derive(Drop)]
+#[derive(Clone, Copy)]
 pub enum Read {
     Ended(usize),
     Refused(Refusal),
 }
 
 // Numbers of one kind side by side.
-#[derive(Drop)]
+#[derive(Clone, Copy)]
 pub struct Run {
     pub kind: Kind,
     pub count: usize,
 }
 
 // The parts of a record: M; Q, N and C, with M; so many numbers W, and D, with M and C; so many owner numbers, and a vector, with M and Q.
-#[derive(Drop)]
+#[derive(Clone, Copy)]
 pub enum Part {
     First,
     Sizes(i32),

@@ -1,5 +1,7 @@
 // Would every child of a node be cut? Decided from what remains of y, before a part of an axis is stored: by the distances alone (`some_child_may_pass`),
 // and, where there are priors, by the parts with their costs (`some_child_may_pass_by_parts`).
+#![tactic(auto)]
+
 ghost use Rattle.std.specs.Prelude.{◌≡◌, cond, ◌+◌, ◌*◌, ◌-◌, ◌<◌, ◌≤◌, ◌^◌};
 ghost use Rattle.std.specs.Bool.{beq};
 ghost use Rattle.model.specs.Block.{most_streams, most_width};

@@ -1,9 +1,11 @@
 // The input of the programs that run test records: the records one after another, each behind its length in two bytes, the low one first.
+#![tactic(auto)]
+
 ghost use Rattle.std.specs.Prelude.{◌≡◌, ◌<◌, length};
 ghost use Rattle.cases.specs.Cases.{case_at, Within};
 
 // The bytes of a test record, from one place of the input up to another; or the input ends before.
-#[derive(Drop)]
+#[derive(Clone, Copy)]
 pub enum Case {
     Bytes(usize, usize),
     CutOff,

@@ -1,4 +1,6 @@
 // The constellation: the points of all symbol labels, from constant tables into lent memory, once for a record.
+#![tactic(auto)]
+
 mod table;
 
 ghost use Rattle.std.specs.Prelude.{◌≡◌, ◌/◌, ◌%◌, ◌<◌, ◌≤◌, ◌^◌, length};

@@ -1,4 +1,6 @@
 // The detector: one block record in, one reply out.
+#![tactic(auto)]
+
 ghost use Rattle.std.specs.Prelude.{◌≡◌, ◌-◌, ◌<◌, ◌≤◌, length};
 ghost use Rattle.wire.specs.Writing.{Wrote};
 ghost use Rattle.model.specs.Block.{vector_of, most_bits};
@@ -23,7 +25,7 @@ use tree::Task;
 pub const SPARES: usize = 5;
 
 // A record's M, Q, N, C, W and D, and its layout.
-#[derive(Drop)]
+#[derive(Clone, Copy)]
 pub struct Header {
     pub layout: Layout,
     pub streams: usize,
@@ -36,7 +38,7 @@ pub struct Header {
 
 // How far the vectors are answered: the place after the last answer; and before a vector the nodes that it may walk, after it those that it
 // left.
-#[derive(Drop)]
+#[derive(Clone, Copy)]
 struct Step {
     at: usize,
     nodes: u32,

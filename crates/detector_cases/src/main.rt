@@ -10,6 +10,8 @@
 // W = C + 1; C and W above range; W in needless groups; and an opening that is none. Then its opening with owners: M = 1 of owner 4, with 20
 // and 19 bytes; owner 5; none; D below M; owner 4 in needless groups, 128 in two; owner 0 before a diagonal of 0. M = 2 of owners 1, 2, 1, 2
 // and 1, 1, 2 with D = 3, of 1, 2, 2, 1 with D = 4, and with W = 7 of 1, 3, 1 and 1, 4, 1, where owner 4's vector is another.
+#![tactic(auto)]
+
 ghost use Rattle.std.specs.Prelude.{◌≡◌, ◌++◌, ◌+◌, ◌<◌, ◌≤◌, length, take, drop};
 ghost use Rattle.cases.specs.Cases.{length_at};
 ghost use Rattle.refusals.specs.Filling.{returned, buffer_after};

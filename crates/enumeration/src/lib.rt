@@ -1,5 +1,7 @@
 // The keys of a node's children, and the next child: the smallest key, found by the smallest of each row of the constellation, which are
 // kept behind the keys with the column of each.
+#![tactic(auto)]
+
 ghost use Rattle.std.specs.Prelude.{◌≡◌, ◌+◌, ◌*◌, ◌<◌, ◌≤◌, ◌^◌, length, drop};
 ghost use Rattle.model.specs.Block.{most_width};
 ghost use Rattle.metric.specs.Keys.{cost_room};
@@ -12,7 +14,7 @@ use metric::AXES;
 use tree::{COST_ROOM, TRIED};
 
 // A row of the constellation, by its real label, and its smallest key.
-#[derive(Drop)]
+#[derive(Clone, Copy)]
 pub struct Row {
     pub row: usize,
     pub key: u64,

@@ -1,4 +1,6 @@
 // What is found of a node's children before the first of them is tried: all of them would be cut, or their keys are filled in.
+#![tactic(auto)]
+
 ghost use Rattle.std.specs.Prelude.{◌≡◌, ◌-◌, ◌*◌, ◌<◌, ◌≤◌, ◌^◌, length};
 ghost use Rattle.model.specs.Block.{most_streams, most_width, most_bits};
 ghost use Rattle.search_spec.specs.Program.{above};

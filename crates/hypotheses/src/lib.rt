@@ -1,5 +1,7 @@
 // What a search keeps of its leaves: the best label, the least metric with each bit 0 and with it 1, and the limits that these give; at the end
 // the soft values.
+#![tactic(auto)]
+
 ghost use Rattle.std.specs.Prelude.{◌≡◌, cond, ◌*◌, ◌<◌, ◌≤◌, ◌^◌, min, nat_abs, length, get_or, set, take, [], ◌∷◌, ◌++◌};
 ghost use Rattle.model.specs.Metric.{prior_at};
 ghost use Rattle.model.specs.Order.{earlier};

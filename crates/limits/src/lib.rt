@@ -1,6 +1,8 @@
 // What a label's limits give, so that no pass test looks at single bits: the widest limit of the bits that are not chosen yet, and, for each
 // label of an axis, the widest limit of the bits that are 1 in it. An exclusive or with the best label's bits says which bits of a node are
 // opposite to that label's.
+#![tactic(auto)]
+
 ghost use Rattle.std.specs.Prelude.{◌≡◌, ◌+◌, ◌*◌, ◌<◌, ◌≤◌, ◌^◌, max, length, get_or};
 ghost use Rattle.model.specs.Block.{most_streams, most_width, most_bits};
 ghost use Rattle.metric.specs.Parts.{axis_width, filled_from};

@@ -1,4 +1,6 @@
 // The lines of a listing as text: a vector's, the first and the last one.
+#![tactic(auto)]
+
 ghost use Rattle.std.specs.Prelude.{◌≡◌, ◌++◌, ◌+◌, ◌*◌, ◌^◌, ◌<◌, ◌≤◌, length, take};
 ghost use Rattle.wire.specs.Writing.{Wrote};
 ghost use Rattle.model.specs.Block.{most_bits};

@@ -2,6 +2,8 @@
 // output. No contract can say what is read or written. Proved is what stands in between: no more
 // bytes are counted as read than the buffer has, and the text handed to standard output is the
 // listing of these. What is printed is not proved: the program is run, and held to stored outputs.
+#![tactic(auto)]
+
 ghost use Rattle.std.specs.Prelude.{◌≡◌};
 ghost use Rattle.lines.specs.Text.{listing_of};
 ghost use Rattle.list.specs.Input.{Within};
@@ -13,7 +15,7 @@ use libc::{STDERR_FILENO, STDIN_FILENO, STDOUT_FILENO};
 const INPUT: usize = block::MOST_BYTES + 1;
 
 // How many bytes of the buffer the input fills; or a read failed.
-#[derive(Drop)]
+#[derive(Clone, Copy)]
 enum Input {
     Bytes(usize),
     Failed,

@@ -1,4 +1,6 @@
 // The listing of a record as text: each vector is searched in record order, and its line is written.
+#![tactic(auto)]
+
 ghost use Rattle.std.specs.Prelude.{◌≡◌, ◌++◌, ◌≤◌, length, drop};
 ghost use Rattle.io.specs.Counts.{IsPrefixLen};
 ghost use Rattle.wire.specs.Writing.{Wrote};
@@ -17,7 +19,7 @@ pub const MOST_TEXT: usize = 22760;
 
 // How far the vectors are listed: the place after the last line and the nodes of these vectors; and before a vector the nodes that it may walk,
 // after it those that it left.
-#[derive(Drop)]
+#[derive(Clone, Copy)]
 struct Progress {
     at: usize,
     total: u32,
@@ -25,7 +27,7 @@ struct Progress {
 }
 
 // All vectors listed: the place after the last line, and the nodes of all.
-#[derive(Drop)]
+#[derive(Clone, Copy)]
 struct Listed {
     at: usize,
     total: u32,

@@ -1,5 +1,7 @@
 // The partial metrics of a node's children (document 01, "The metric"): what remains of y in a row, the distance to the nearest amplitude of an
 // axis, and the one pass that makes the children's keys from what their axis labels add. Here stand the sizes, and what the modules share.
+#![tactic(auto)]
+
 mod children;
 mod distance;
 mod remaining;

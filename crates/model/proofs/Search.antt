@@ -140,7 +140,7 @@ module _ (v : Vector) where
 module _ (v : Vector) (q : 0 < v.width) (n : ℕ) where
   below_extends : (todo done : List Row) (node : Bits) (p : Progress) → Extends p (walk_below v todo done node p)
   unfolding walk_below
-  below_extends [] done node p = ([], sym (mathlib.Core.List.append_nil p.walked))
+  below_extends [] done node p = ([], sym (mathlib.Core.List.append-nil p.walked))
   below_extends (r ∷ todo) done node p = fold_extends _ (visit_extends v q todo done r) (children v.width (r ∷ done) node) p
 
   below_first : (todo done : List Row) (node : Bits) (p : Progress) → length p.walked ≤ n → search_below v n todo done node (kept v false p.walked) ≡ first v n (walk_below v todo done node p).walked

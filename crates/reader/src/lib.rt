@@ -1,5 +1,7 @@
 // The record reader: every list of bytes is read into its whole numbers, each read and then ranged before the next, or refused by the first check
 // that fails: document 01, "The record" and "Where a record is turned back", with document 02's 15 to 17.
+#![tactic(auto)]
+
 ghost use Rattle.std.specs.Prelude.{◌≡◌, [], ◌∷◌, ◌+◌, ◌*◌, ◌<◌, ◌≤◌, ◌^◌, length, replicate, take};
 ghost use Rattle.block.specs.Reading.{opening, whole_of, by_number, one_at, Sure, kinds_of, Small, most_numbers, owned_size, vector_kinds, numbers_at, runs_of, part_at, starts_with, layout_of, size_stage, limit_stage, vector_stage, stages_at, read_record, read_whole, got, into, StreamsStored, SizesStored};
 

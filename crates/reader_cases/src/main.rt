@@ -1,6 +1,8 @@
 // Runs the record reader on the test records of standard input (crate cases). For each a line is written: `refused` and the refusal's
 // number, or `accepted`, how many whole numbers the record has and their checksum. What the lines must be comes from a second reader, in
 // Rust.
+#![tactic(auto)]
+
 ghost use Rattle.std.specs.Prelude.{◌≡◌, ◌<◌, ◌≤◌, min, nat_abs, length, get_or};
 ghost use Rattle.block.specs.Reading.{most_numbers};
 ghost use Rattle.reader_cases.specs.Numbers.{header_count, owner_count, count_of, moved, mixed, checksum_of};

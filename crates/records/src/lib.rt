@@ -1,4 +1,6 @@
 // Block records and their whole numbers, both ways (document 02, Points 2, 4 and 7): the writer and the reader, exported for C.
+#![tactic(auto)]
+
 ghost use Rattle.std.specs.Prelude.{◌≡◌, ◌*◌, ◌%◌, ◌<◌, ◌≤◌, pos, length, get_or, take};
 ghost use Rattle.block.specs.declared.Part.TheVariants.{Vector};
 ghost use Rattle.std.proofs.lemmas.List.Edits.{sets};
@@ -16,7 +18,7 @@ use block::{Layout, Read};
 use refusals::{Kind, Refusal};
 
 // The layout that the writer is told by a number, or none.
-#[derive(Drop)]
+#[derive(Clone, Copy)]
 enum Told {
     Known(Layout),
     Unknown,

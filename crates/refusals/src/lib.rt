@@ -1,11 +1,13 @@
 // The kinds of number in a record with the range of each, and the refusals with their numbers: document 01, "Where a record is turned back",
 // with document 02's 15 to 17. The rule for calls that fill lent memory is among the definitions.
+#![tactic(auto)]
+
 ghost use Rattle.std.specs.Prelude.{◌≡◌, pos, neg_ℤ};
 ghost use Rattle.refusals.specs.Table.{refusal_number, refusal_of, between, one_of, crowded, allowed, is_folded};
 ghost use Rattle.model.specs.Block.{widths};
 
 // Why a record is turned back; the definition refusal_number has the documents' number for each.
-#[derive(Drop)]
+#[derive(Clone, Copy)]
 pub enum Refusal {
     Opening,
     Ends,
@@ -30,7 +32,7 @@ pub enum Refusal {
 }
 
 // The kinds of number in a record, each with a range of its own; the symbol width's depends on M, W's ends at C, the share's begins at M.
-#[derive(Drop)]
+#[derive(Clone, Copy)]
 pub enum Kind {
     StreamCount,
     SymbolWidth(i32),

@@ -1,4 +1,6 @@
 // The reply's bytes (document 01, "The record"): what is written of a block's sizes and of a vector's answer, and the room that is asked for.
+#![tactic(auto)]
+
 ghost use Rattle.std.specs.Prelude.{◌≡◌, [], ◌∷◌, ◌++◌, map, ◌+◌, ◌*◌, ◌<◌, ◌≤◌, length, take};
 ghost use Rattle.wire.specs.Writing.{Wrote};
 ghost use Rattle.wire.specs.Folding.{folded};

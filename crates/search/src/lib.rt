@@ -1,4 +1,6 @@
 // The search of one vector (document 01, "The walk"): the walk under an allowance, turn by turn, and the vector's answer.
+#![tactic(auto)]
+
 ghost use Rattle.std.specs.Prelude.{◌≡◌, true, false, ◌+◌, ◌*◌, ◌-◌, ◌<◌, ◌≤◌, ◌^◌, length};
 ghost use Rattle.model.specs.Block.{empty_side, most_streams, most_width};
 ghost use Rattle.constellation.specs.Points.{Points};
@@ -162,7 +164,7 @@ fn begin(
 }
 
 // What a reply says of a vector, but for its soft values, and the label's squared distance.
-#[derive(Drop)]
+#[derive(Clone, Copy)]
 pub struct Found {
     pub stopped: bool,
     pub count: u32,

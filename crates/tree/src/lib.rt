@@ -1,8 +1,9 @@
 // The small types of a tree search, passed by value between its crates: what is asked, a node, what is kept, and the number above every
 // metric.
+#![tactic(auto)]
 
 // What a search is asked: a vector's M, Q and C, and its allowance (document 01's term).
-#[derive(Drop)]
+#[derive(Clone, Copy)]
 pub struct Task {
     pub streams: usize,
     pub width: usize,
@@ -13,7 +14,7 @@ pub struct Task {
 // A node: how many streams are not chosen yet, its partial metric with its two parts, the squared distance and the prior cost of the streams
 // that are chosen, the widest limit of those of its bits that are opposite to the best label's, and the bits that are chosen, as a number.
 // With no stream left to choose it is a leaf, and these are a label and its metric.
-#[derive(Drop)]
+#[derive(Clone, Copy)]
 pub struct Node {
     pub level: usize,
     pub partial: u64,
@@ -25,7 +26,7 @@ pub struct Node {
 
 // What a search has kept, but for the minima: the best label's metric with its two parts, nodes counted, that label (document 01's m, the MAP
 // hypothesis of the leaves walked), and the mark.
-#[derive(Drop)]
+#[derive(Clone, Copy)]
 pub struct Kept {
     pub best: u64,
     pub distance: u64,
@@ -36,7 +37,7 @@ pub struct Kept {
 }
 
 // A complex number whose parts are whole numbers.
-#[derive(Drop)]
+#[derive(Clone, Copy)]
 pub struct Complex {
     pub re: i64,
     pub im: i64,

@@ -1,5 +1,7 @@
 // One turn over a node's children (document 01, "The walk"): the next of them is taken, and cut, or stopped at, or to be counted, and then its own
 // children are looked at.
+#![tactic(auto)]
+
 ghost use Rattle.std.specs.Prelude.{◌≡◌, ◌+◌, ◌*◌, ◌-◌, ◌<◌, ◌≤◌, ◌^◌, length};
 ghost use Rattle.model.specs.Block.{most_streams, most_width, most_bits};
 ghost use Rattle.limits.specs.Reach.{limits_size};
@@ -14,7 +16,7 @@ use tree::{COST_ROOM, Kept, Node, Task};
 
 // What a turn over a node's children came to: no child that is left passes; the next child is cut; the allowance is used up; or the child is
 // to be counted, and then left, since all of its own children would be cut, or taken as a leaf, or searched.
-#[derive(Drop)]
+#[derive(Clone, Copy)]
 pub enum Turn {
     Ended,
     Cut,

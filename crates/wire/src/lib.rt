@@ -1,12 +1,14 @@
 // One number of a record, read and written: groups of seven bits, least significant first. Folding, signed numbers as plain ones. And the
 // four bytes in front.
+#![tactic(auto)]
+
 ghost use Rattle.std.specs.Prelude.{◌≡◌, ◌+◌, ◌<◌, ◌≤◌, ◌^◌, length};
 ghost use Rattle.wire.specs.Reading.{number_at, Sound};
 ghost use Rattle.wire.specs.Writing.{bytes_of, put};
 ghost use Rattle.wire.specs.Folding.{folded, unfolded};
 
 // What is found at a place: a number with the place after it, bytes that end too early, or groups that are no number's.
-#[derive(Drop)]
+#[derive(Clone, Copy)]
 pub enum Number {
     Value(u32, usize),
     Short,

@@ -1,0 +1,33 @@
+-- In each arm the part is known, and what is called there gives its run.
+use borrow.Author.Rules.{rules, sfits_of}
+use mathlib.Core.Path.{◌≡◌}
+use Prim.Native.Nat.{◌<◌}
+use native.Mathlib.Omega.{arith}
+use mir.Syntax.{w32}
+use mir.Val.{SFits}
+use mir.Facts.{to_z-of_z}
+use Rattle.block.specs.Reading.{runs_of}
+use Rattle.block.proofs.Runs.{vector_runs_lem}
+use Rattle.block.proofs.order.run_at.Goals as goal
+
+pub size_run-requires : goal.size_run-requires
+unfolding runs_of
+size_run-requires c = rw c.before.part-1.given.1 at c.before.before.before.requires.1
+
+pub limit_run-requires : goal.limit_run-requires
+unfolding runs_of
+limit_run-requires c = rw c.before.part-in-Limits-1.given.1 at c.before.before.before.requires.1
+
+pub owned_run-requires : goal.owned_run-requires
+owned_run-requires c =
+    let s = c.before.before.before in
+    let small = rw c.before.part-in-Vector-1.given.1 at s.requires.0 in
+    (small, omega (arith, rw (c.before.part-in-Vector-1.given.1, vector_runs_lem) at s.requires.1))
+
+pub returns-in-First : goal.returns-in-First
+unfolding runs_of
+returns-in-First c =
+    let s = c.before.before in
+    let h : s.args.i < 1 = rw c.enum_told-1.given.1 at s.requires.1 in
+    let e : s.args.i ≡ 0 = omega arith in
+    rw (c.enum_told-1.given.1, e)

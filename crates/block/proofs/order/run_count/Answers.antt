@@ -1,0 +1,25 @@
+-- In each arm the part is known, and so is its list of runs.
+use borrow.Author.Rules.{rules}
+use mathlib.Core.Path.{sym}
+use Prim.Native.Nat.{◌≤◌}
+use native.Mathlib.Omega.{arith}
+use Rattle.model.specs.Block.{most_streams}
+use Rattle.block.specs.Reading.{runs_of}
+use Rattle.block.proofs.Runs.{vector_runs_lem}
+use Rattle.block.proofs.order.run_count.Goals as goal
+
+pub returns-in-First : goal.returns-in-First
+unfolding runs_of
+returns-in-First c = rw c.enum_told-1.given.1
+
+pub returns-in-Sizes : goal.returns-in-Sizes
+unfolding runs_of
+returns-in-Sizes c = rw c.enum_told-in-Sizes-1.given.1
+
+pub returns-in-Limits : goal.returns-in-Limits
+unfolding runs_of
+returns-in-Limits c = rw c.enum_told-in-Limits-1.given.1
+
+pub returns-in-Vector : goal.returns-in-Vector
+returns-in-Vector c =
+    rw c.before.part-1.given.1 (sym (vector_runs_lem _ _ _))

@@ -1,0 +1,21 @@
+-- The invariant: folding the distance k times more gives the nearest one. It stays in its range, for the middles are in it too.
+use mathlib.Core.Path.{◌≡◌, ◌∙◌, ap}
+use Prim.Native.Nat.{◌-◌, ◌*◌, ◌≤◌, ◌<◌, ◌^◌}
+use native.Mathlib.Nat.{mul-le-mul}
+use native.Mathlib.Omega.{arith}
+use lib.Pow.{pow_mono, shl_exact}
+use lib.IntN.{nat_abs}
+use mir.Syntax.{w64}
+use mir.Val.{to_z}
+use mir.Facts.{to_z-of_z}
+use Rattle.model.specs.Block.{most_entry}
+use Rattle.metric.specs.Parts.{remainder_bound, axis_width, span, apart, nearest_of}
+use Rattle.metric.proofs.Folds.{fold_more, fold_none}
+use Rattle.metric.proofs.distance.folded.Given as goal
+
+abbrev pub invariant-loop-k : goal.invariant-loop-k
+invariant-loop-k l =
+    (l.k ≤ axis_width) × (l.distance < remainder_bound) × (nearest_of l.diagonal l.k l.distance ≡ nearest_of l.diagonal l.w (nat_abs (to_z w64 l.e)))
+
+abbrev pub decreases-loop-k : goal.decreases-loop-k
+decreases-loop-k l = l.k

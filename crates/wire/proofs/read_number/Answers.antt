@@ -1,0 +1,11 @@
+-- `wire::read_number` meets its contract: a first byte without the high bit is the number by one law, and all others are read by the loop.
+use borrow.Author.Rules.{rules}
+use mathlib.Core.Path.{sym}
+use native.Mathlib.Omega.{arith}
+use Rattle.wire.proofs.Reading.{number_of_one}
+use Rattle.wire.proofs.RoundTrip.{answered}
+use Rattle.wire.proofs.read_number.Goals as goal
+
+pub returns-then-first-lt128 : goal.returns-then-first-lt128
+returns-then-first-lt128 c =
+    answered _ _ _ (sym (number_of_one _ _ (omega arith) (omega arith)))
