@@ -19,7 +19,6 @@ ghost use Rattle.detector.specs.Outcome.{outcome};
 ghost use Rattle.detector_cases.specs.Bench.{hex_digit, all_fill, second_at, TwoWithin};
 
 use cases::Case;
-use libc::{STDIN_FILENO, STDOUT_FILENO};
 
 // What the buffer is filled with.
 const FILL: u8 = 0xAA;
@@ -32,24 +31,22 @@ fn digit(d: u8) -> u8
     if d < 10 { 48 + d } else { 55 + d }
 }
 
-fn print_byte(b: u8) {
+// What can not be written is passed over, here and below.
+fn print_byte(rt: &impl Print, b: u8) {
     let text = [digit(b / 16), digit(b % 16)];
-    io::write_all(STDOUT_FILENO, &text);
+    let _ = rt.write_all(&text);
 }
 
-fn print_bytes(bytes: &[u8]) {
+fn print_bytes(rt: &impl Print, bytes: &[u8]) {
     let mut i = 0;
     while i < bytes.len() {
-        print_byte(bytes[i]);
+        print_byte(rt, bytes[i]);
         i += 1;
     }
 }
 
-fn print_signed(z: i64) {
-    if z < 0 {
-        io::write_all(STDOUT_FILENO, b"-");
-    }
-    io::print_decimal(STDOUT_FILENO, integers::magnitude(z));
+fn print_signed(rt: &impl Print, z: i64) {
+    let _ = print!(rt; "{z}");
 }
 
 // Is every byte the one that the buffer is filled with?
@@ -76,18 +73,18 @@ fn detect(bytes: &[u8], array: &mut [u8], n: usize) -> i64
 }
 
 // Runs one test case and writes its line, and one more if a byte behind the buffer was altered.
-fn run(record: &[u8], n: usize) {
+fn run(rt: &impl Print, record: &[u8], n: usize) {
     if 128 < n {
-        io::write_all(STDOUT_FILENO, b"too long\n");
+        let _ = println!(rt; "too long");
         return;
     }
     let mut array = [FILL; 128];
-    print_signed(detect(record, &mut array, n));
-    io::write_all(STDOUT_FILENO, b" ");
-    print_bytes(&array[..n]);
-    io::write_all(STDOUT_FILENO, b"\n");
+    print_signed(rt, detect(record, &mut array, n));
+    let _ = print!(rt; " ");
+    print_bytes(rt, &array[..n]);
+    let _ = println!(rt; "");
     if !untouched(&array[n..]) {
-        io::write_all(STDOUT_FILENO, b"altered beyond the buffer\n");
+        let _ = println!(rt; "altered beyond the buffer");
     }
 }
 
@@ -118,30 +115,30 @@ fn number_at(input: &[u8], at: usize) -> usize
 }
 
 // Runs each test case of the input.
-fn run_all(input: &[u8]) {
+fn run_all(rt: &impl Print, input: &[u8]) {
     let mut at = 0;
     while at < input.len() {
         match cases::case_at(input, at) {
             Case::Bytes(start, end) => match second_at(input, end) {
                 Case::Bytes(room, next) => {
-                    run(&input[start..end], number_at(input, room));
+                    run(rt, &input[start..end], number_at(input, room));
                     at = next;
                 }
                 Case::CutOff => {
-                    io::write_all(STDOUT_FILENO, b"cut off\n");
+                    let _ = println!(rt; "cut off");
                     return;
                 }
             },
             Case::CutOff => {
-                io::write_all(STDOUT_FILENO, b"cut off\n");
+                let _ = println!(rt; "cut off");
                 return;
             }
         }
     }
 }
 
-fn main() {
+fn main(rt: HostRuntime) {
     let mut input = [0u8; 4096];
-    let n = io::read_full(STDIN_FILENO, &mut input);
-    run_all(&input[..n]);
+    let n = cases::read_full(&mut rt.stdin(), &mut input);
+    run_all(&rt, &input[..n]);
 }

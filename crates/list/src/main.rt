@@ -1,14 +1,18 @@
 // The listing program: a block record comes in by standard input, its listing goes out by standard
-// output. No contract can say what is read or written. Proved is what stands in between: no more
-// bytes are counted as read than the buffer has, and the text handed to standard output is the
-// listing of these. What is printed is not proved: the program is run, and held to stored outputs.
+// output. The work is done over any reader and any writer, whose bytes a contract can name. Proved
+// is that no more bytes are counted as read than the buffer has, that they are those that the
+// reader gave, and that what a writer took, where it took all, is the listing of these. That
+// standard input and output are such a reader and writer is not proved: the program is run, and
+// held to stored outputs.
 #![tactic(auto)]
 
-ghost use Rattle.std.specs.Prelude.{◌≡◌};
+ghost use Rattle.std.specs.Prelude.{◌≡◌, OnOk};
+ghost use Rattle.std.specs.Io.KnownBytes.{Appends};
 ghost use Rattle.lines.specs.Text.{listing_of};
-ghost use Rattle.list.specs.Input.{Within};
+ghost use Rattle.list.specs.Input.{Within, HasRead};
 
-use libc::{STDERR_FILENO, STDIN_FILENO, STDOUT_FILENO};
+use std::io;
+use std::io::{Read, Write};
 
 // How many bytes are read at most: one more than the longest record has, so that a longer input is
 // seen to be too long.
@@ -22,48 +26,50 @@ enum Input {
 }
 
 // Reads until the buffer is full or the input ends.
-fn read_input(input: &mut [u8]) -> Input
-    ensures { Within input.new result }
+fn read_input<R: Read>(from: &mut R, input: &mut [u8]) -> Input
+    ensures within { Within input.new result }
+    ensures bytes { HasRead (R.remaining from.old) (R.remaining from.new) input.new result }
 {
     let mut n = 0;
     while n < input.len() {
-        let got = libc::read(STDIN_FILENO, &mut input[n..]);
-        if got < 0 {
-            return Input::Failed;
+        match from.read(&mut input[n..]) {
+            Ok(0) => return Input::Bytes(n),
+            Ok(more) => n += more,
+            Err(_) => return Input::Failed,
         }
-        let more = io::count(got, &input[n..]);
-        if more == 0 {
-            return Input::Bytes(n);
-        }
-        n += more;
     }
     Input::Bytes(n)
 }
 
-fn complain(text: &[u8]) {
-    io::write_all(STDERR_FILENO, text);
+fn complain<W: Write>(errors: &mut W, text: &[u8]) {
+    let _ = errors.write_all(text);
 }
 
-// Hands a record's listing to standard output. The record is there for the contract alone.
-fn write(record: &[u8], text: &[u8])
+// Hands a record's listing to a writer. The record is there for the contract alone.
+fn write<W: Write>(output: &mut W, record: &[u8], text: &[u8]) -> io::Result<()>
     requires { text.now ≡ listing_of «record».now }
+    ensures { OnOk result (Appends (W.contents output.old) (W.contents output.new) (listing_of «record».now)) }
 {
-    if !io::write_all(STDOUT_FILENO, text) {
-        complain(b"Standard output could not be written.\n");
-    }
+    output.write_all(text)
 }
 
 // Prints the listing of a record.
-fn print(record: &[u8]) {
+fn print<W: Write>(output: &mut W, record: &[u8]) -> io::Result<()>
+    ensures { OnOk result (Appends (W.contents output.old) (W.contents output.new) (listing_of «record».now)) }
+{
     let mut text = [0u8; listing::MOST_TEXT];
     let n = listing::list(record, &mut text);
-    write(record, &text[..n]);
+    write(output, record, &text[..n])
 }
 
-fn main() {
+fn main(rt: HostRuntime) {
     let mut input = [0u8; INPUT];
-    match read_input(&mut input) {
-        Input::Bytes(n) => print(&input[..n]),
-        Input::Failed => complain(b"Standard input could not be read.\n"),
+    match read_input(&mut rt.stdin(), &mut input) {
+        Input::Bytes(n) => {
+            if print(&mut rt.stdout(), &input[..n]).is_err() {
+                complain(&mut rt.stderr(), b"Standard output could not be written.\n");
+            }
+        }
+        Input::Failed => complain(&mut rt.stderr(), b"Standard input could not be read.\n"),
     }
 }

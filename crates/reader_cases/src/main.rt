@@ -9,7 +9,6 @@ ghost use Rattle.reader_cases.specs.Numbers.{header_count, owner_count, count_of
 
 use block::{MOST_NUMBERS, Read};
 use cases::Case;
-use libc::{STDIN_FILENO, STDOUT_FILENO};
 
 fn smaller(a: usize, b: usize) -> usize
     ensures { result ≡ min a b }
@@ -99,23 +98,17 @@ fn checksum(numbers: &[i32; MOST_NUMBERS], n: usize) -> u64
     sum
 }
 
-// The line of a refused record.
-fn print_refused(number: u32) {
-    io::write_all(STDOUT_FILENO, b"refused ");
-    io::print_decimal(STDOUT_FILENO, number as u64);
-    io::write_all(STDOUT_FILENO, b"\n");
+// The line of a refused record. A line that can not be written is passed over, as the other lines are.
+fn print_refused(rt: &impl Print, number: u32) {
+    let _ = println!(rt; "refused {number}");
 }
 
-fn print_accepted(count: usize, sum: u64) {
-    io::write_all(STDOUT_FILENO, b"accepted ");
-    io::print_decimal(STDOUT_FILENO, count as u64);
-    io::write_all(STDOUT_FILENO, b" ");
-    io::print_decimal(STDOUT_FILENO, sum);
-    io::write_all(STDOUT_FILENO, b"\n");
+fn print_accepted(rt: &impl Print, count: usize, sum: u64) {
+    let _ = println!(rt; "accepted {count} {sum}");
 }
 
 // Reads one test record and writes its line.
-fn run(record: &[u8], numbers: &mut [i32; MOST_NUMBERS])
+fn run(rt: &impl Print, record: &[u8], numbers: &mut [i32; MOST_NUMBERS])
     requires { length numbers.old ≡ most_numbers }
     ensures { length numbers.new ≡ most_numbers }
 {
@@ -123,32 +116,32 @@ fn run(record: &[u8], numbers: &mut [i32; MOST_NUMBERS])
         Read::Ended(_) => {
             let last = last_byte(record);
             let n = count(header(last), owners(last), numbers);
-            print_accepted(n, checksum(numbers, n));
+            print_accepted(rt, n, checksum(numbers, n));
         }
-        Read::Refused(refusal) => print_refused(refusals::refusal_number(refusal)),
+        Read::Refused(refusal) => print_refused(rt, refusals::refusal_number(refusal)),
     }
 }
 
 // Reads each test record of the input. The numbers of one stay in the list for the next, which must not see them.
-fn run_all(input: &[u8]) {
+fn run_all(rt: &impl Print, input: &[u8]) {
     let mut numbers = [0i32; MOST_NUMBERS];
     let mut at = 0;
     while at < input.len() {
         match cases::case_at(input, at) {
             Case::Bytes(start, end) => {
-                run(&input[start..end], &mut numbers);
+                run(rt, &input[start..end], &mut numbers);
                 at = end;
             }
             Case::CutOff => {
-                io::write_all(STDOUT_FILENO, b"cut off\n");
+                let _ = println!(rt; "cut off");
                 return;
             }
         }
     }
 }
 
-fn main() {
+fn main(rt: HostRuntime) {
     let mut input = [0u8; 262144];
-    let n = io::read_full(STDIN_FILENO, &mut input);
-    run_all(&input[..n]);
+    let n = cases::read_full(&mut rt.stdin(), &mut input);
+    run_all(&rt, &input[..n]);
 }
