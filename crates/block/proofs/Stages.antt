@@ -315,7 +315,7 @@ module _ (s : List ℤ → List Kind) (later : List (List ℤ → List Kind)) (b
       ≡ into (n + length kinds) (stages_at later (take (n + length kinds) list') bytes next) list'
   unfolding stages_at
   stage_ended next room e =
-      then_ended (numbers_at kinds bytes at) _ n list list' next e
+      then_ended (numbers_at kinds bytes at) (λ zs after. stages_at later (take n list ++ zs) bytes after) n list list' next e
       ∙ λ j. into (n + many kinds bytes at next n list list' room e j)
       (stages_at later (sym (stored_front kinds bytes at next n list list' room e) j) bytes next) list'
 
@@ -323,7 +323,7 @@ module _ (s : List ℤ → List Kind) (later : List (List ℤ → List Kind)) (b
   pub stage_refused : (r : Refusal) → got (Refused r) list' ≡ into n (numbers_at kinds bytes at) list
       → into n (stages_at (s ∷ later) (take n list) bytes at) list ≡ got (Refused r) list'
   unfolding stages_at
-  stage_refused r e = then_refused (numbers_at kinds bytes at) _ n list list' r e
+  stage_refused r e = then_refused (numbers_at kinds bytes at) (λ zs after. stages_at later (take n list ++ zs) bytes after) n list list' r e
 
 -- A last stage
 pub stage_last : (s : List ℤ → List Kind) (known : List ℤ) (bytes : List ℕ) (at : ℕ)

@@ -10,4 +10,4 @@ returns-then-i-eq0 c =
 
 pub returns : goal.returns
 returns c =
-    c.vector_run.ensures ∙ sym (run_later _ _ _ _ c.before.if-i-eq0.false)
+    c.vector_run.ensures ∙ sym (run_later _ _ _ _ c.if-i-eq0.false)

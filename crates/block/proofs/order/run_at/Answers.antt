@@ -12,22 +12,20 @@ use Rattle.block.proofs.order.run_at.Goals as goal
 
 pub size_run-requires : goal.size_run-requires
 unfolding runs_of
-size_run-requires c = rw c.before.part-1.given.1 at c.before.before.before.requires.1
+size_run-requires c = rw c.in-Sizes.is at c.requires.1
 
 pub limit_run-requires : goal.limit_run-requires
 unfolding runs_of
-limit_run-requires c = rw c.before.part-in-Limits-1.given.1 at c.before.before.before.requires.1
+limit_run-requires c = rw c.in-Limits.is at c.requires.1
 
 pub owned_run-requires : goal.owned_run-requires
 owned_run-requires c =
-    let s = c.before.before.before in
-    let small = rw c.before.part-in-Vector-1.given.1 at s.requires.0 in
-    (small, omega (arith, rw (c.before.part-in-Vector-1.given.1, vector_runs_lem) at s.requires.1))
+    let small = rw c.in-Vector.is at c.requires.0 in
+    (small, omega (arith, rw (c.in-Vector.is, vector_runs_lem) at c.requires.1))
 
 pub returns-in-First : goal.returns-in-First
 unfolding runs_of
 returns-in-First c =
-    let s = c.before.before in
-    let h : s.args.i < 1 = rw c.enum_told-1.given.1 at s.requires.1 in
-    let e : s.args.i ≡ 0 = omega arith in
-    rw (c.enum_told-1.given.1, e)
+    let h : c.args.i < 1 = rw c.in-First.is at c.requires.1 in
+    let e : c.args.i ≡ 0 = omega arith in
+    rw (c.in-First.is, e)

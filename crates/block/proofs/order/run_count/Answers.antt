@@ -10,16 +10,16 @@ use Rattle.block.proofs.order.run_count.Goals as goal
 
 pub returns-in-First : goal.returns-in-First
 unfolding runs_of
-returns-in-First c = rw c.enum_told-1.given.1
+returns-in-First c = rw c.in-First.is
 
 pub returns-in-Sizes : goal.returns-in-Sizes
 unfolding runs_of
-returns-in-Sizes c = rw c.enum_told-in-Sizes-1.given.1
+returns-in-Sizes c = rw c.in-Sizes.is
 
 pub returns-in-Limits : goal.returns-in-Limits
 unfolding runs_of
-returns-in-Limits c = rw c.enum_told-in-Limits-1.given.1
+returns-in-Limits c = rw c.in-Limits.is
 
 pub returns-in-Vector : goal.returns-in-Vector
 returns-in-Vector c =
-    rw c.before.part-1.given.1 (sym (vector_runs_lem _ _ _))
+    rw c.in-Vector.is (sym (vector_runs_lem _ _ _))

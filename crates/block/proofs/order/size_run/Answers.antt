@@ -10,13 +10,13 @@ use Rattle.block.proofs.order.size_run.Goals as goal
 pub returns-in-0 : goal.returns-in-0
 unfolding runs_of
 returns-in-0 c =
-    let e : c.before.args.i ≡ 0 = omega arith in
-    rw e (ap (λ (z : ℤ). run (SymbolWidth z) 1) (to_z-of_z c.before.ranges.m))
+    let e : c.args.i ≡ 0 = omega arith in
+    rw e (ap (λ (z : ℤ). run (SymbolWidth z) 1) (to_z-of_z c.ranges.m))
 
 pub returns-in-1 : goal.returns-in-1
 unfolding runs_of
-returns-in-1 c = let e : c.before.args.i ≡ 1 = omega arith in rw e
+returns-in-1 c = let e : c.args.i ≡ 1 = omega arith in rw e
 
 pub returns-in_default : goal.returns-in_default
 unfolding runs_of
-returns-in_default c = let e : c.before.args.i ≡ 2 = omega arith in rw e
+returns-in_default c = let e : c.args.i ≡ 2 = omega arith in rw e

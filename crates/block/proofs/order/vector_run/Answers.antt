@@ -7,11 +7,11 @@ use Rattle.block.proofs.order.vector_run.Goals as goal
 
 pub returns-then-i-eq0 : goal.returns-then-i-eq0
 returns-then-i-eq0 c =
-    sym (run_diagonal _ _ _ c.before.if-i-m.true c.if-i-eq0.true)
+    sym (run_diagonal _ _ _ c.if-i-m.true c.if-i-eq0.true)
 
 pub returns-then-i-m : goal.returns-then-i-m
 returns-then-i-m c =
-    sym (run_right _ _ _ c.before.if-i-m.true c.if-i-eq0.false)
+    sym (run_right _ _ _ c.if-i-m.true c.if-i-eq0.false)
 
 pub returns-then-i-m-2 : goal.returns-then-i-m-2
 returns-then-i-m-2 c =
@@ -19,4 +19,4 @@ returns-then-i-m-2 c =
 
 pub returns : goal.returns
 returns c =
-    let a = c.before.before.args in sym (run_prior a.m a.q a.i (omega arith))
+    let a = c.args in sym (run_prior a.m a.q a.i (omega arith))
