@@ -15,7 +15,7 @@ use Rattle.metric.proofs.distance.folded.Given as goal
 
 abbrev pub invariant-loop-k : goal.invariant-loop-k
 invariant-loop-k l =
-    (l.k ≤ axis_width) × (l.distance < remainder_bound) × (nearest_of l.diagonal l.k l.distance ≡ nearest_of l.diagonal l.w (nat_abs (to_z w64 l.e)))
+    (l.k ≤ axis_width) × (l.distance < remainder_bound) × (nearest_of l.diagonal l.k l.distance ≡ nearest_of l.diagonal l.w (nat_abs l.e))
 
 abbrev pub decreases-loop-k : goal.decreases-loop-k
 decreases-loop-k l = l.k

@@ -25,9 +25,9 @@ use Rattle.metric.proofs.remaining.remainder.Given as goal
 abbrev pub invariant-loop-t : goal.invariant-loop-t
 invariant-loop-t l =
     (l.t ≤ l.m - (l.level + 1))
-    × (nat_abs (to_z w64 l.re) ≤ most_received + l.t * most_term)
-    × (nat_abs (to_z w64 l.im) ≤ most_received + l.t * most_term)
-    × (remains l.m l.q l.numbers l.level l.node ≡ complex_of (to_z w64 l.re) (to_z w64 l.im) ⊖ rest_of l.m l.q l.numbers l.level l.node l.t)
+    × (nat_abs l.re ≤ most_received + l.t * most_term)
+    × (nat_abs l.im ≤ most_received + l.t * most_term)
+    × (remains l.m l.q l.numbers l.level l.node ≡ complex_of l.re l.im ⊖ rest_of l.m l.q l.numbers l.level l.node l.t)
 
 abbrev pub decreases-loop-t : goal.decreases-loop-t
 decreases-loop-t l = l.m - (l.level + 1) - l.t
