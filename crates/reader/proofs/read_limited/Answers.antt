@@ -26,13 +26,13 @@ read_part-requires c = let l = c.args.numbers.now in
     rw c.weak_count-weak.ensures (tt, omega (arith, weak_few c.args.layout))
 
 -- They were stored whole
-stored : (c : lts.After-next tie.the-claims reads.Pre reads.Post) → got (Ended c.next-1.given.0.0) c.read_part.new.numbers
+stored : (c : lts.Past-After-known_told tie.the-claims reads.Pre reads.Post) → got (Ended c.in-Ended.next) c.read_part.new.numbers
     ≡ into 4 (part_at (Limits (weak_count c.args.layout) (get_or c.args.numbers.now 0 (pos 0)) (get_or c.args.numbers.now 3 (pos 0))) c.args.bytes.now c.args.at) c.args.numbers.now
 stored c =
     let l = c.args.numbers.now in
     let m : SFits w32 (get_or l 0 (pos 0)) = sfits_of c.m-1.given in
     let clip : SFits w32 (get_or l 3 (pos 0)) = sfits_of c.c-1.given in
-    simp to_z-of_z at (rw (c.next-1.given.1, c.weak_count-weak.ensures) at c.read_part.ensures)
+    simp to_z-of_z at (rw (c.in-Ended.is, c.weak_count-weak.ensures) at c.read_part.ensures)
 
 -- Q, N and M are read back from the list
 width : (c : lts.After-count_of tie.the-claims reads.Pre reads.Post) → c.count_of-q.result ≡ count_at 1 c.args.numbers.now
@@ -54,17 +54,17 @@ pub read_vectors-requires : goal.read_vectors-requires
 read_vectors-requires c =
     let l = c.args.numbers.now in
     let m : c.count_of.result ≤ most_streams = rw (streams c.before.before) (plain_most (between_plain 1 most_streams (get_or l 0 (pos 0)) c.requires.stored.streams)) in
-    let q : c.count_of-q.result ≤ most_width = rw (width c.before.before.before.before.before.before.before.before.before.before.before.before.before.before) (width_most (allowed_width (get_or l 0 (pos 0)) (get_or l 1 (pos 0)) c.requires.width)) in
+    let q : c.count_of-q.result ≤ most_width = rw (width c.before.before.before.before.before.before.before.before.before.before.before.before) (width_most (allowed_width (get_or l 0 (pos 0)) (get_or l 1 (pos 0)) c.requires.width)) in
     let bits : c.count_of.result * c.count_of-q.result ≤ most_bits =
-    rw (streams c.before.before, width c.before.before.before.before.before.before.before.before.before.before.before.before.before.before) (label_most (get_or l 0 (pos 0)) (get_or l 1 (pos 0)) c.requires.stored.streams c.requires.width) in
-    let n : c.count_of-n.result ≤ most_vectors = rw (vectors c.before.before.before.before.before.before.before.before.before.before.before.before) (plain_most (between_plain 1 most_vectors (get_or l 2 (pos 0)) c.requires.vectors)) in
+    rw (streams c.before.before, width c.before.before.before.before.before.before.before.before.before.before.before.before) (label_most (get_or l 0 (pos 0)) (get_or l 1 (pos 0)) c.requires.stored.streams c.requires.width) in
+    let n : c.count_of-n.result ≤ most_vectors = rw (vectors c.before.before.before.before.before.before.before.before.before.before) (plain_most (between_plain 1 most_vectors (get_or l 2 (pos 0)) c.requires.vectors)) in
     rw (c.header_size-first.ensures, c.own_count-own.ensures)
     ((m, q, bits), own_few c.args.layout, all_fit c.args.layout _ _ _ m bits n)
 
 pub returns-in-Ended : goal.returns-in-Ended
 returns-in-Ended c =
-    rw (c.header_size-first.ensures, c.own_count-own.ensures, streams c.before.before.before, width c.before.before.before.before.before.before.before.before.before.before.before.before.before.before.before, vectors c.before.before.before.before.before.before.before.before.before.before.before.before.before) at c.read_vectors.ensures
-    ∙ sym (limits_ended c.args.layout _ _ _ _ _ c.requires (stored c.before.before.before.before.before.before.before))
+    rw (c.header_size-first.ensures, c.own_count-own.ensures, streams c.before.before.before, width c.before.before.before.before.before.before.before.before.before.before.before.before.before, vectors c.before.before.before.before.before.before.before.before.before.before.before) at c.read_vectors.ensures
+    ∙ sym (limits_ended c.args.layout _ _ _ _ _ c.requires (stored c.before.before.before.before.before.before))
 
 pub returns-in-Refused : goal.returns-in-Refused
 returns-in-Refused c =

@@ -22,7 +22,7 @@ pub returns-in-Refused : goal.returns-in-Refused
 returns-in-Refused c =
     let at = c.before.before in
     sym (c.loop-i.invariant.3
-    ∙ part_refused _ _ (there c.before.before.before.before.before.before.before) at.run_at-run.result at.run_at-run.ensures _ _ _ _ _ _ (rw c.in-Refused.is at c.read_run.ensures))
+    ∙ part_refused _ _ (there c.before.before.before.before.before) at.run_at-run.result at.run_at-run.ensures _ _ _ _ _ _ (rw c.in-Refused.is at c.read_run.ensures))
 
 pub loop-i-preserved : goal.loop-i-preserved
 loop-i-preserved c =
@@ -30,9 +30,9 @@ loop-i-preserved c =
     (
       c.loop-i.invariant.0,
       omega arith,
-      omega (arith, room c.before.before.before.before.before.before),
+      omega (arith, room c.before.before.before.before),
       c.loop-i.invariant.3
-          ∙ part_ended _ _ (there c.before.before.before.before.before.before.before) at.run_at-run.result at.run_at-run.ensures _ _ _ _ _ _ (rw c.in-Ended.is at c.read_run.ensures),
+          ∙ part_ended _ _ (there c.before.before.before.before.before) at.run_at-run.result at.run_at-run.ensures _ _ _ _ _ _ (rw c.in-Ended.is at c.read_run.ensures),
     )
 
 pub read_run-requires : goal.read_run-requires
@@ -41,7 +41,7 @@ read_run-requires c =
 
 pub overflow_add-to : goal.overflow_add-to
 overflow_add-to c =
-    omega (arith, room c.before.before.before.before.before.before)
+    omega (arith, room c.before.before.before.before)
 
 pub returns : goal.returns
 returns c =

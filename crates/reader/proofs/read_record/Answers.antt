@@ -32,20 +32,20 @@ is_open_lem : (c : lts.Else1 tie.the-claims reads.Pre reads.Post) → let bytes 
 is_open_lem c = sym (opens c.before) ∙ not-false _ c.if-not-has_opening.false-raw
 
 -- M was stored
-stored : (c : lts.After-next tie.the-claims reads.Pre reads.Post) → got (Ended c.next-1.given.0.0) c.read_part.new.numbers ≡ into 0 (part_at First c.args.bytes.now 4) c.args.numbers.now
-stored c = rw c.next-1.given.1 at c.read_part.ensures
+stored : (c : lts.Past-After-known_told tie.the-claims reads.Pre reads.Post) → got (Ended c.in-Ended.next) c.read_part.new.numbers ≡ into 0 (part_at First c.args.bytes.now 4) c.args.numbers.now
+stored c = rw c.in-Ended.is at c.read_part.ensures
 
 pub returns-in-Ended : goal.returns-in-Ended
 unfolding read_record
 returns-in-Ended c =
-    rw (is_open_lem c.before.before.before.before.before.before.before.before)
-    (rw c.layout_of-layout.ensures at c.read_sized.ensures ∙ sym (first_ended (layout_of c.args.bytes.now) _ _ _ _ _ c.requires (stored c.before.before.before.before)))
+    rw (is_open_lem c.before.before.before.before.before.before)
+    (rw c.layout_of-layout.ensures at c.read_sized.ensures ∙ sym (first_ended (layout_of c.args.bytes.now) _ _ _ _ _ c.requires (stored c.before.before.before)))
 
 pub returns-in-Refused : goal.returns-in-Refused
 unfolding read_record
 returns-in-Refused c =
-    rw (is_open_lem c.before.before.before.before.before.before) (sym (first_refused (layout_of c.args.bytes.now) _ _ _ _ _ (rw c.in-Refused.is at c.read_part.ensures)))
+    rw (is_open_lem c.before.before.before.before) (sym (first_refused (layout_of c.args.bytes.now) _ _ _ _ _ (rw c.in-Refused.is at c.read_part.ensures)))
 
 pub read_sized-requires : goal.read_sized-requires
 read_sized-requires c =
-    first_stored c.layout_of-layout.result _ _ _ _ _ c.requires (stored c.before.before.before)
+    first_stored c.layout_of-layout.result _ _ _ _ _ c.requires (stored c.before.before)

@@ -13,7 +13,7 @@ use Rattle.reader.proofs.read_run.Goals as goal
 
 pub loop-k-preserved : goal.loop-k-preserved
 loop-k-preserved c =
-    let f : SFits w32 c.in-Taken.z = sfits_of c.known_told-1.given.0.1 in (
+    let f : SFits w32 c.in-Taken.z = search rules in (
       c.loop-k.invariant.0,
       omega arith,
       rw (to_z-of_z f)

@@ -21,11 +21,11 @@ unfolding kinds_of runs_of
 read_part-requires c = (tt, omega arith)
 
 -- They were stored whole
-stored : (c : lts.After-next tie.the-claims reads.Pre reads.Post) → got (Ended c.next-1.given.0.0) c.read_part.new.numbers
+stored : (c : lts.Past-After-known_told tie.the-claims reads.Pre reads.Post) → got (Ended c.in-Ended.next) c.read_part.new.numbers
     ≡ into 1 (part_at (Sizes (get_or c.args.numbers.now 0 (pos 0))) c.args.bytes.now c.args.at) c.args.numbers.now
 stored c =
     let f : SFits w32 (get_or c.args.numbers.now 0 (pos 0)) = sfits_of c.m-1.given in
-    simp to_z-of_z at (rw c.next-1.given.1 at c.read_part.ensures)
+    simp to_z-of_z at (rw c.in-Ended.is at c.read_part.ensures)
 
 pub returns-in-Refused : goal.returns-in-Refused
 returns-in-Refused c =
@@ -34,8 +34,8 @@ returns-in-Refused c =
 
 pub read_limited-requires : goal.read_limited-requires
 read_limited-requires c =
-    sizes_stored c.args.layout _ _ _ _ _ c.requires (stored c.before.before.before)
+    sizes_stored c.args.layout _ _ _ _ _ c.requires (stored c.before.before)
 
 pub returns-in-Ended : goal.returns-in-Ended
 returns-in-Ended c =
-    c.read_limited.ensures ∙ sym (sizes_ended c.args.layout _ _ _ _ _ c.requires (stored c.before.before.before.before))
+    c.read_limited.ensures ∙ sym (sizes_ended c.args.layout _ _ _ _ _ c.requires (stored c.before.before.before))

@@ -28,7 +28,7 @@ loop-k-preserved c =
     let size = c.loop-k.invariant.0 in (
       size,
       omega arith,
-      omega (arith, room c.before.before.before.before.before.before),
+      omega (arith, room c.before.before.before.before),
       rw size (c.loop-k.invariant.3 ∙ rest_ended _ _ _ _ _ _ _ _ _ c.loop-k-test.true _ _ (rw c.in-Ended.is at c.read_part.ensures)),
     )
 

@@ -1,0 +1,16 @@
+-- The invariant: the first a rows have their column.
+use borrow.Author.Rules.{rules}
+use mathlib.Core.Path.{◌≡◌, refl, ap, ◌∙◌}
+use Prim.Native.Nat.{◌+◌, ◌-◌, ◌≤◌, ◌<◌}
+use native.Mathlib.Omega.{arith}
+use lib.ListN.{length}
+use Rattle.metric.specs.Parts.{filled_from}
+use Rattle.metric.proofs.Filled.{from_more, from_length}
+use Rattle.enumeration.specs.Rows.{same_column}
+use Rattle.enumeration.proofs.fill_row_columns.Given as goal
+
+abbrev pub invariant-loop-a : goal.invariant-loop-a
+invariant-loop-a l = (l.a ≤ l.rows) × (l.keys ≡ filled_from l.at (same_column l.column) l.a l.initial.keys)
+
+abbrev pub decreases-loop-a : goal.decreases-loop-a
+decreases-loop-a l = l.rows - l.a
