@@ -2,8 +2,8 @@
 PREFIX ?= /usr/local
 TREE = $(DESTDIR)$(abspath $(PREFIX))
 
-# What is proved: the crates, folders too, so that a file that is gone counts as a change. Must-fail edits are not part of what is built.
-PROVED := crates.txt .ci/prove $(shell find crates -name must-fail -prune -o -print)
+# What is proved, folders too, so that a file that is gone counts as a change.
+PROVED := crates.txt .ci/prove $(shell find crates/*/src crates/*/specs crates/*/proofs 2> /dev/null)
 HEADERS := include/geckoneedle.h hosts/geckoneedle_text.h
 VERSION := $(shell sed -n 's/^.define GECKONEEDLE_VERSION "\(.*\)".*/\1/p' include/geckoneedle.h)
 BENCH = cargo run --quiet --offline --profile measure --manifest-path rust/Cargo.toml -p linked --bin bench
@@ -49,7 +49,7 @@ install: build/libgeckoneedle.a build/libgeckoneedle_text.a ## libraries, header
 	@sed 's|@PREFIX@|$(abspath $(PREFIX))|; s|@VERSION@|$(VERSION)|' include/geckoneedle.pc.in > build/geckoneedle.pc
 	@install -m 644 build/geckoneedle.pc "$(TREE)/lib/pkgconfig"
 
-test: ## the whole test, .ci/run: proves every crate from nothing, tries every must-fail edit, runs and links everything
+test: ## the whole test, .ci/run: proves every crate, tries every must-fail edit, runs and links everything
 	.ci/run
 
 bench: build/libgeckoneedle.a ## times of the proved detector beside the fast Rust one; RECORDS=folder: on that folder's records
@@ -68,14 +68,13 @@ peer: ## soft values and times beside IT++'s exhaustive demodulator, on the same
 figures: build/libgeckoneedle.a ## measures all again and renews docs/figures/ and docs/PERFORMANCE.md; needs valgrind
 	rust/linked/figures.sh
 
-clean: ## removes what was built; what was proved stays, in target/
+clean: ## removes what was built; what was proved stays, in crates/*/out
 	rm -rf build rust/target
 
-# The listing program. `rt ci` removes target/; what was proved and built here stays good as long as the crates are unchanged.
+# The listing program. `rt run` runs it, too, on no bytes. What was proved and built here stays good as long as the crates are unchanged.
 build/list: $(PROVED)
-	@mkdir -p build && : > build/list.log
-	@.ci/prove list check list
-	@cp target/bin/list build/list.new && mv build/list.new build/list
+	@.ci/prove list run list
+	@cp crates/list/out/list build/list.new && mv build/list.new build/list
 
 build/libgeckoneedle.a: $(PROVED) .ci/lib
 	@.ci/lib

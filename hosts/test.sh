@@ -110,27 +110,34 @@ make_here() {
     MAKEFLAGS= make --silent --old-file=build/libgeckoneedle.a "$@"
 }
 
-# Makes a tree of its own in build/tree, with a stand-in for rt that proves nothing: it notes its arguments, says what rt would say, and gives
-# the library that is there. Or it fails, where a file asks for it.
+# Makes a tree of its own in build/tree, with a stand-in for rt that proves nothing: it notes the crate and its arguments, says what rt would
+# say, and gives the library that is there, or a program. Or it fails, where a file asks for it.
 plant_tree() {
     rm -rf build/tree
-    mkdir -p build/tree/bin build/tree/crates/one/src
+    mkdir -p build/tree/bin build/tree/crates/one/src build/tree/crates/geckoneedle_c/src build/tree/crates/list/src
     cp -R Makefile .ci crates.txt include hosts samples build/tree
     cp build/libgeckoneedle.a build/tree/bin
-    echo "fn one" >build/tree/crates/one/src/one.rt
+    echo "fn one" >build/tree/crates/one/src/one
     cat >build/tree/bin/rt <<'script'
 #!/bin/sh
-echo "$@" >>calls
+crate=${PWD##*/}
+cd ../..
+echo "$crate" "$@" >>calls
+echo "rt: chose --jobs 2 for one"
 echo "fn one::one: proved"
-[ ! -f fails ] || { echo "rt: one NOT PROVED"; exit 1; }
-echo "rt: one proved (7 s)"
-echo "rt: other proved (unchanged since it was last proved)"
-mkdir -p target/staticlib target/bin
-cp bin/libgeckoneedle.a target/staticlib/libdetector.a
-cp bin/libgeckoneedle.a target/staticlib/librecords.a
-printf '#!/bin/sh\nwc -c\n' >target/bin/list
-chmod +x target/bin/list
-[ "$1" = check ] || echo "rt: target/staticlib/lib$2.a has the functions of $2 that are marked"
+[ ! -f fails ] || { echo "logic=not-proved"; exit 1; }
+echo "logic=proved functions=1"
+echo "rt: chose --jobs 2 for $crate"
+echo "logic=proved functions=3"
+mkdir -p "crates/$crate/out"
+case $1 in
+lib) cp bin/libgeckoneedle.a "crates/$crate/out/lib$crate.a" ;;
+run)
+    printf '#!/bin/sh\nwc -c\n' >"crates/$crate/out/$crate"
+    chmod +x "crates/$crate/out/$crate"
+    "crates/$crate/out/$crate"
+    ;;
+esac
 script
     chmod +x build/tree/bin/rt
 }
@@ -391,26 +398,26 @@ for target in run list record numbers lib host install test bench instructions f
 done
 makes 2 "" list
 makes 2 "" record NUMBERS=missing RECORD=none
-makes 0 "staticlib detector, staticlib records, " lib
-[ "$(tr '\n' ';' <build/printed)" = "one proved (7 s);detector proved, and built as a library;one proved (7 s);records proved, and built as a library;" ] ||
-    fail "make lib: not a line for each crate: $(cat build/printed)"
+lib="geckoneedle_c lib --cpu=x86-64, "
+makes 0 "$lib" lib
+[ "$(tr '\n' ';' <build/printed)" = "one proved;geckoneedle_c proved;" ] || fail "make lib: not a line for each crate: $(cat build/printed)"
 grep -q "fn one::one: proved" build/tree/build/lib.log || fail "make lib: build/lib.log has not what rt says"
 makes 0 "" lib host install numbers PREFIX=installed RECORD=samples/example.rec
-makes 0 "check list, " run
+makes 0 "list run, " run
 makes 0 "" run
-rm -r build/tree/target
+rm -r build/tree/crates/*/out
 makes 0 "" run lib list RECORD=samples/example.rec
 touch build/tree/include/geckoneedle.h build/tree/hosts/geckoneedle_text.c
 makes 0 "" lib host install PREFIX=installed
-echo "fn two" >build/tree/crates/one/src/two.rt
-makes 0 "staticlib detector, staticlib records, check list, " host run
-rm build/tree/crates/one/src/two.rt
+echo "fn two" >build/tree/crates/one/src/two
+makes 0 "${lib}list run, " host run
+rm build/tree/crates/one/src/two
 : >build/tree/fails
-makes 2 "staticlib detector, " host
-grep -q "rt: one NOT PROVED" build/printed || fail "make host: what rt refuses is not shown"
-makes 2 "check list, " run
+makes 2 "$lib" host
+grep -q "logic=not-proved" build/printed || fail "make host: what rt refuses is not shown"
+makes 2 "list run, " run
 rm build/tree/fails
-makes 0 "check list, staticlib detector, staticlib records, " run lib
+makes 0 "list run, $lib" run lib
 makes 0 "" run lib host
 makes 0 "" clean
 [ ! -e build/tree/build ] || fail "make clean leaves build/"

@@ -8,6 +8,7 @@ cd "$(dirname "$0")/../.."
 cargo build --quiet --offline --profile measure --manifest-path rust/Cargo.toml -p linked
 bench=rust/target/measure/bench
 processor=$(awk -F': ' '/^model name/ { print $2; exit }' /proc/cpuinfo)
+kit=$(rt version | cut -d' ' -f1)
 mkdir -p docs/figures
 
 rm -rf build/records
@@ -16,13 +17,15 @@ $bench records build/records
 {
     echo "# Instructions a walked node"
     echo
+    echo "Counted of the library as $kit built it."
+    echo
     rust/linked/instructions.sh build/records
 } >docs/figures/instructions.md
 
 {
     echo "# Times"
     echo
-    echo "Measured on $processor, $(rustc --version)."
+    echo "Measured on $processor, $kit, $(rustc --version)."
     echo
     $bench times
 } >docs/figures/times.md
@@ -33,7 +36,7 @@ if command -v itpp-config >/dev/null; then
     {
         echo "# Beside IT++"
         echo
-        echo "Measured on $processor, IT++ $(itpp-config --version)."
+        echo "Measured on $processor, $kit, IT++ $(itpp-config --version)."
         echo
         make --silent peer
     } >docs/figures/peer.md
@@ -44,7 +47,7 @@ fi
 # A row for each shape: its name, then of all its records together instructions a node and their ratio, and microseconds a vector and theirs,
 # and the geometric mean of the records' ratios of times.
 summary() {
-    echo "Measured on $processor, $(rustc --version)."
+    echo "Measured on $processor, $kit, $(rustc --version)."
     echo
     echo "| shape | proved: instructions a node | Rust | ratio | proved: µs a vector | Rust | ratio | mean ratio |"
     echo "|---|---|---|---|---|---|---|---|"

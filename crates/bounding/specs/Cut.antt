@@ -24,7 +24,7 @@ pub record Beyond (q base : ℕ) (entries : List ℕ) (own d s : ℕ) : Type 0 w
 pub record Widest (q : ℕ) (entries : List ℕ) : Type 0 where
   pub real : WidestLast entries 0 (q - q / 2)
   pub imaginary : WidestLast entries span (q / 2)
-  pub real_bits_lem : ByBits entries 0 (q - q / 2)
+  pub real_bits : ByBits entries 0 (q - q / 2)
   pub imaginary_bits : ByBits entries span (q / 2)
 
 -- What the test by distances asks: `re` and `im` are what remains of y in the row

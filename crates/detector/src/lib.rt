@@ -92,7 +92,7 @@ pub fn set_aside(numbers: &[i32], h: Header) -> [u32; SPARES]
 }
 
 // Vector k, from 0, is searched under an allowance: what the reply says of it, its soft values at the front of `soft`, and its label's squared
-// distance. The exported call makes bytes of this, the listing text.
+// distance. The call `geckoneedle_detect` makes bytes of this, the listing text.
 pub fn search_one(
     numbers: &[i32],
     h: Header,
@@ -189,8 +189,7 @@ fn reply_to(layout: Layout, numbers: &[i32], reply: &mut [u8]) -> i64
 }
 
 // One record in, one reply out: the reply's length, or minus the refusal number over an untouched buffer.
-#[unsafe(no_mangle)]
-pub extern "C" fn geckoneedle_detect(record: &[u8], reply: &mut [u8]) -> i64
+pub fn geckoneedle_detect(record: &[u8], reply: &mut [u8]) -> i64
     ensures { (result ≡ returned (outcome «record».now (length reply.old)))
         × (reply.new ≡ buffer_after (outcome «record».now (length reply.old)) reply.old) }
 {

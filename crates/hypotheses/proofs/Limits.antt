@@ -114,7 +114,7 @@ module _ (m q a : ℕ) (streams : m ≤ most_streams) (bits : q ≤ most_width) 
     widest = λ j h. record {
       real = widest_at j 0 (axis_bits q real) h (omega arith) (axis_few q real bits);
       imaginary = widest_at j span (axis_bits q imaginary) h (omega arith) (axis_few q imaginary bits);
-      real_bits_lem = bits_at j 0 (axis_bits q real) h (omega arith) (axis_few q real bits);
+      real_bits = bits_at j 0 (axis_bits q real) h (omega arith) (axis_few q real bits);
       imaginary_bits = bits_at j span (axis_bits q imaginary) h (omega arith) (axis_few q imaginary bits);
     };
   }

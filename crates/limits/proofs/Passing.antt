@@ -128,7 +128,7 @@ module _ {q : ℕ} {limit : ℕ → ℕ} {limits : List ℕ} {k : ℕ} (made : R
       record {
         real = last_widest real 0 (omega arith) first;
         imaginary = last_widest imaginary span (omega arith) second;
-        real_bits_lem = by_bits real 0 (omega arith) first;
+        real_bits = by_bits real 0 (omega arith) first;
         imaginary_bits = by_bits imaginary span (omega arith) second;
       }
 

@@ -1,6 +1,6 @@
 -- For which number a list is refused, and what becomes of its beginnings: each that has the number is refused as the whole list is, and each
 -- that ends before it passes all its checks, up to 2 at its end or none. So the number can be found by calls on beginnings.
-use Prim.Native.Nat.{ℕ, zero, suc, ◌-◌, ◌≤◌, ◌<◌}
+use Prim.Native.Nat.{ℕ, zero, suc, ◌≤◌, ◌<◌}
 use mathlib.Core.Path.{◌≡◌, refl, sym, ◌∙◌, ap, ap₂}
 use mathlib.Core.Bool.{Bool, true, false, cond}
 use mathlib.Core.Logic.{◌⊎◌, inl, inr, ⊎_elim}

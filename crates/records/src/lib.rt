@@ -1,4 +1,4 @@
-// Block records and their whole numbers, both ways (document 02, Points 2, 4 and 7): the writer and the reader, exported for C.
+// Block records and their whole numbers, both ways (document 02, Points 2, 4 and 7): the writer and the reader.
 #![tactic(auto)]
 
 ghost use Rattle.std.specs.Prelude.{◌≡◌, ◌*◌, ◌%◌, ◌<◌, ◌≤◌, pos, length, get_or, take};
@@ -210,8 +210,7 @@ fn told_by(opening: u32) -> Told
 
 // A list's whole numbers in, and the opening told by its number; record bytes out: how many, or minus the refusal number over an untouched
 // buffer.
-#[unsafe(no_mangle)]
-pub extern "C" fn geckoneedle_write(opening: u32, numbers: &[i32], record: &mut [u8]) -> i64
+pub fn geckoneedle_write(opening: u32, numbers: &[i32], record: &mut [u8]) -> i64
     ensures { call result «record».new
         ≡ filling (writing opening numbers.now (length «record».old)) «record».old }
 {
@@ -248,8 +247,7 @@ fn hand_over(layout: Layout, list: &[i32; block::MOST_NUMBERS], numbers: &mut [i
 }
 
 // A record's bytes in, its whole numbers out: how many, or minus the refusal number over an untouched list.
-#[unsafe(no_mangle)]
-pub extern "C" fn geckoneedle_read(record: &[u8], numbers: &mut [i32]) -> i64
+pub fn geckoneedle_read(record: &[u8], numbers: &mut [i32]) -> i64
     ensures { call result numbers.new
         ≡ filling (reading «record».now (length numbers.old)) numbers.old }
 {

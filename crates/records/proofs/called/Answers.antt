@@ -1,6 +1,5 @@
 -- Within the header all of it is called for; behind it M, Q and N tell how many numbers are.
 use native.Mathlib.Omega.{arith}
-use borrow.Author.Rules.{rules}
 use Rattle.records.proofs.Places.{sized, called_within, called_behind}
 use Rattle.records.specs.Steps.{Sized}
 use Rattle.records.proofs.called.Lts as lts

@@ -1,11 +1,11 @@
 -- The invariant: the numbers before the i-th are in their ranges and their bytes counted, those from it on decide, and `end` tells whether
 -- one is called for at i. The measure is what is left of the list.
-use Prim.Native.Nat.{◌+◌, ◌-◌, ◌≤◌, ◌<◌}
+use Prim.Native.Nat.{◌+◌, ◌≤◌, ◌<◌}
 use mathlib.Core.Path.{◌≡◌, refl, sym, ◌∙◌, ap, ap₂}
 use mathlib.Core.List.{List}
 use native.Mathlib.Omega.{arith}
-use borrow.Author.Rules.{rules, sfits_of}
-use borrow.Author.Tests.{ltb-true, ltb-false, lt-ltb, le-ltb, not-true, not-false}
+use borrow.Author.Rules.{rules}
+use borrow.Author.Tests.{ltb-true, ltb-false, lt-ltb, le-ltb}
 use lib.IntN.{ℤ, pos}
 use lib.ListN.{length, get_or}
 use mir.Syntax.{w32}
@@ -18,7 +18,7 @@ use Rattle.block.specs.Conditions.{called_for}
 use Rattle.refusals.specs.declared.Kind.{Kind}
 use Rattle.block.specs.declared.Layout.{Layout}
 use Rattle.records.specs.Writing.{plain_of}
-use Rattle.records.specs.Steps.{kind_at, Called}
+use Rattle.records.specs.Steps.{kind_at}
 use Rattle.records.proofs.Numbers.{Written}
 use Rattle.records.proofs.Places.{written_at}
 use Rattle.records.proofs.Checking.{Checking, checking_start, checking_more, ends_short, ends_turned, ends_long, ends_fine}
@@ -55,7 +55,7 @@ module _ (c : lts.After-allowed tie.the-claims reads.Pre reads.Post goal.the-inv
   number = get_or (list_in loop) loop.loop-i.i (pos 0)
 
   fits : SFits w32 number
-  fits = sfits_of c.z-1.given
+  fits = search rules
 
   -- It is tested against its kind
   test : c.allowed.result ≡ allowed kind number
@@ -66,7 +66,7 @@ returns-then-not-allowed c =
     let l = loop c.before.before in
     let is : c.refusal_of.result ≡ refusal_of (kind c.before.before) (number c.before.before) =
     c.refusal_of.ensures ∙ ap₂ refusal_of c.kind_at-kind.ensures (to_z-of_z {w = w32} (fits c.before.before)) in
-    rw is (ends_turned (layout_in l) (list_in l) l.loop-i.i l.loop-i.size l.loop-i.inv.0 (is_called c.before.before.before.before.before.before) c.if-numbers-i.false (sym (test c.before.before) ∙ not-true c.allowed.result c.if-not-allowed.true-raw))
+    rw is (ends_turned (layout_in l) (list_in l) l.loop-i.i l.loop-i.size l.loop-i.invariant.0 (is_called c.before.before.before.before.before.before) c.if-numbers-i.false (sym (test c.before.before) ∙ c.if-not-allowed.true))
 
 -- One turn
 module _ (c : lts.After-plain tie.the-claims reads.Pre reads.Post goal.the-invariant-loop-i goal.the-decreases-loop-i) where
@@ -80,13 +80,13 @@ module _ (c : lts.After-plain tie.the-claims reads.Pre reads.Post goal.the-invar
       → Checking (layout_in (loop turn)) (list_in (loop turn)) ((loop turn).loop-i.i + 1) ((loop turn).loop-i.size + size)
   more size e =
       let l = loop turn in
-      checking_more (layout_in l) (list_in l) l.loop-i.i l.loop-i.size l.loop-i.inv.0 (is_called turn.before) turn.if-numbers-i.left
-      (sym (test turn) ∙ not-false turn.allowed.result c.if-not-allowed.false-raw) size (e ∙ ap (λ n. length (bytes_of n)) plain_is)
+      checking_more (layout_in l) (list_in l) l.loop-i.i l.loop-i.size l.loop-i.invariant.0 (is_called turn.before.before.before.before) turn.if-numbers-i.false
+      (sym (test turn) ∙ c.if-not-allowed.false) size (e ∙ ap (λ n. length (bytes_of n)) plain_is)
 
   writes : Written (kind turn) (number turn)
   writes =
       let l = loop turn in
-      written_at (layout_in l) (list_in l) l.loop-i.i (is_called turn.before) turn.if-numbers-i.left (more _ refl).before
+      written_at (layout_in l) (list_in l) l.loop-i.i (is_called turn.before.before.before.before) turn.if-numbers-i.false (more _ refl).before
 
 pub loop-i-init : goal.loop-i-init
 loop-i-init c =
@@ -102,7 +102,7 @@ group_count-size-requires c =
 
 pub overflow_add-size : goal.overflow_add-size
 overflow_add-size c =
-    let l = (loop (turn c.before)).loop-i in omega (arith, l.inv.0.small, l.inv.1.most, c.group_count-size.ensures, bytes_of-most c.plain.result)
+    let l = (loop (turn c.before)).loop-i in omega (arith, l.invariant.0.small, l.invariant.1.most, c.group_count-size.ensures, bytes_of-most c.plain.result)
 
 pub called-end-requires-in-loop-i : goal.called-end-requires-in-loop-i
 called-end-requires-in-loop-i c =

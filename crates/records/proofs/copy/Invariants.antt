@@ -1,15 +1,8 @@
 -- The invariant: all the numbers stored from the start on are those from the i-th on stored from place i on.
 use Prim.Native.Nat.{◌≤◌, ◌-◌}
-use mathlib.Core.Path.{◌≡◌, refl, sym, ◌∙◌}
-use native.Mathlib.Omega.{arith}
-use borrow.Author.Rules.{sfits_of}
-use lib.IntN.{pos}
-use lib.ListN.{length, get_or, take, drop, length-set}
+use mathlib.Core.Path.{◌≡◌}
+use lib.ListN.{length, take, drop}
 use lib.Seq.{sets}
-use mir.Syntax.{w32}
-use mir.Val.{SFits}
-use mir.Facts.{to_z-of_z}
-use Rattle.records.proofs.Reading.{copied_more, copied_all}
 use Rattle.records.proofs.copy.Given as goal
 
 abbrev pub invariant-loop-i : goal.invariant-loop-i

@@ -1,6 +1,6 @@
 -- A record is read or refused; what was read is what the lent list holds.
 use mathlib.Core.Path.{◌∙◌}
-use borrow.Author.Rules.{rules, sfits_of}
+use borrow.Author.Rules.{sfits_of}
 use lib.IntN.{pos}
 use lib.ListN.{replicate, length-replicate}
 use mir.Syntax.{w64}

@@ -1,6 +1,6 @@
 -- What the told layout writes, or the refusal of an unknown opening.
 use mathlib.Core.Path.{sym, ◌∙◌}
-use borrow.Author.Rules.{rules, sfits_of}
+use borrow.Author.Rules.{sfits_of}
 use mir.Syntax.{w64}
 use mir.Val.{SFits}
 use mir.Facts.{to_z-of_z}

@@ -1,7 +1,7 @@
 -- Each arm is an entry of the list; behind C it is W or D by the place.
 use mathlib.Core.Path.{◌≡◌, sym, ◌∙◌, ap}
 use native.Mathlib.Omega.{arith}
-use borrow.Author.Rules.{rules, sfits_of}
+use borrow.Author.Rules.{rules}
 use lib.IntN.{pos}
 use lib.ListN.{get_or}
 use mir.Syntax.{w32}
@@ -16,7 +16,7 @@ use Rattle.records.proofs.header_kind.Goals as goal
 pub returns-then-i-share_place : goal.returns-then-i-share_place
 returns-then-i-share_place c =
     let l = c.args.numbers.now in
-    let f : SFits w32 (get_or l 3 (pos 0)) = sfits_of c.result-then-i-share_place-1.given in
+    let f : SFits w32 (get_or l 3 (pos 0)) = search rules in
     ap WeakLevel (to_z-of_z f)
     ∙ sym (weak_kind c.args.layout (get_or l 0 (pos 0)) (get_or l 3 (pos 0)) c.args.i (omega arith) (rw c.share_place.ensures at c.if-i-share_place.true))
 
@@ -28,7 +28,7 @@ pub returns-in-1 : goal.returns-in-1
 unfolding kinds_of runs_of
 returns-in-1 c =
     let e : c.args.i ≡ 1 = omega arith in
-    let f : SFits w32 (get_or c.args.numbers.now 0 (pos 0)) = sfits_of c.result-1.given in
+    let f : SFits w32 (get_or c.args.numbers.now 0 (pos 0)) = search rules in
     rw e (ap SymbolWidth (to_z-of_z f))
 
 pub returns-in-2 : goal.returns-in-2
@@ -42,7 +42,7 @@ returns-in-3 c = let e : c.args.i ≡ 3 = omega arith in rw e
 pub returns-else-i-share_place : goal.returns-else-i-share_place
 returns-else-i-share_place c =
     let l = c.args.numbers.now in
-    let f : SFits w32 (get_or l 0 (pos 0)) = sfits_of c.result-in_default-1.given in
+    let f : SFits w32 (get_or l 0 (pos 0)) = search rules in
     let last : c.args.i ≡ share_place c.args.layout = omega (arith, c.share_place.ensures, c.if-i-share_place.false, c.requires.0) in
     ap NodeShare (to_z-of_z f)
     ∙ sym (ap (kind_in (header_kinds c.args.layout (get_or l 0 (pos 0)) (get_or l 3 (pos 0)))) last ∙ share_kind c.args.layout (get_or l 0 (pos 0)) (get_or l 3 (pos 0)))

@@ -2,7 +2,6 @@
 use Prim.Native.Nat.{◌≤◌, ◌<◌}
 use mathlib.Core.Path.{sym, ◌∙◌}
 use native.Mathlib.Omega.{arith}
-use borrow.Author.Rules.{rules}
 use Rattle.block.specs.Reading.{header_size}
 use Rattle.block.proofs.Parts.{own_few}
 use Rattle.block.proofs.CalledFor.{record_header, record_vector, called_at, called_few}

@@ -1,12 +1,9 @@
 -- The invariant: the kind at j of the whole matrix is that at the present place of what is left of it, a matrix of fewer columns, which is
 -- not passed yet. The measure is the columns left.
 use Prim.Native.Nat.{ℕ, zero, suc, ◌+◌, ◌-◌, ◌*◌, ◌≤◌, ◌<◌}
-use mathlib.Core.Path.{◌≡◌, refl, sym, ◌∙◌}
+use mathlib.Core.Path.{◌≡◌, sym, ◌∙◌}
 use native.Mathlib.Nat.{suc-mul, mul-suc}
 use native.Mathlib.Omega.{arith}
-use lib.ListN.{get_or}
-use Rattle.block.specs.Reading.{kinds_of, matrix_runs}
-use Rattle.refusals.specs.declared.Kind.TheVariants.{StreamCount}
 use Rattle.block.proofs.CalledFor.{matrix_diagonal, matrix_right, matrix_below}
 use Rattle.records.proofs.matrix_kind.Lts as lts
 use Rattle.records.proofs.matrix_kind.Reads as reads

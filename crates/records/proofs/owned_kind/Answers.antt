@@ -1,11 +1,7 @@
 -- The place in its vector is the owner's, or behind it the vector's own.
-use Prim.Native.Nat.{◌+◌, ◌%◌, ◌<◌}
+use Prim.Native.Nat.{◌+◌}
 use mathlib.Core.Path.{◌≡◌, sym, ◌∙◌}
-use native.Mathlib.Nat.{mod-lt}
-use native.Mathlib.Omega.{arith}
-use borrow.Author.Rules.{rules}
 use Rattle.block.specs.Reading.{owned_size}
-use Rattle.block.proofs.Parts.{size_most}
 use Rattle.block.proofs.CalledFor.{kind_owner, kind_behind_owner}
 use Rattle.records.proofs.owned_kind.Lts as lts
 use Rattle.records.proofs.owned_kind.Reads as reads

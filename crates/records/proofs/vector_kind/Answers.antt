@@ -1,9 +1,6 @@
 -- The place is in R, behind it in y, or behind that among the priors.
-use Prim.Native.Nat.{◌*◌, ◌≤◌}
 use mathlib.Core.Path.{sym, ◌∙◌}
-use native.Mathlib.Nat.{mul-le-mul}
 use native.Mathlib.Omega.{arith}
-use borrow.Author.Rules.{rules}
 use Rattle.block.proofs.CalledFor.{kind_in_matrix, kind_received, kind_prior}
 use Rattle.records.proofs.vector_kind.Goals as goal
 

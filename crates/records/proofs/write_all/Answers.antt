@@ -1,8 +1,7 @@
 -- The invariant: the numbers from the i-th on, put at the present place, are all of them put behind the opening.
-use Prim.Native.Nat.{◌-◌, ◌≤◌}
 use mathlib.Core.Path.{◌≡◌, ◌∙◌, ap, ap₂}
 use native.Mathlib.Omega.{arith}
-use borrow.Author.Rules.{rules, sfits_of}
+use borrow.Author.Rules.{rules}
 use lib.IntN.{pos}
 use lib.ListN.{length, get_or}
 use mir.Syntax.{w32}
@@ -15,7 +14,7 @@ use Rattle.records.specs.Writing.{plain_of}
 use Rattle.records.specs.Steps.{kind_at, Asked}
 use Rattle.records.proofs.Places.{all_asked, all_written}
 use Rattle.records.proofs.Checking.{record_length}
-use Rattle.records.proofs.Writing.{Putting, fine_allowed, putting_start, putting_room, putting_more, putting_all}
+use Rattle.records.proofs.Writing.{fine_allowed, putting_room, putting_more, putting_all}
 use Rattle.records.proofs.write_all.Lts as lts
 use Rattle.records.proofs.write_all.Reads as reads
 use Rattle.records.proofs.write_all.Tie as tie
@@ -37,10 +36,10 @@ asked t = all_asked (start t).args.layout _ (passed (start t)) _ t.loop-i-test.t
 
 -- The number that is written
 number_is : (c : lts.After-plain tie.the-claims reads.Pre reads.Post goal.the-invariant-loop-i goal.the-decreases-loop-i) → let n = (start c.before.before.before.before).args.numbers.now in
-    c.plain.result ≡ plain_of (kind_at (start c.before.before.before.before).args.layout n c.before.loop.i) (get_or n c.before.loop.i (pos 0))
+    c.plain.result ≡ plain_of (kind_at (start c.before.before.before.before).args.layout n c.loop-i.i) (get_or n c.loop-i.i (pos 0))
 number_is c =
     let n = (start c.before.before.before.before).args.numbers.now in
-    let f : SFits w32 (get_or n c.before.loop.i (pos 0)) = sfits_of c.plain-arg-1.given in
+    let f : SFits w32 (get_or n c.loop-i.i (pos 0)) = search rules in
     c.plain.ensures ∙ ap₂ plain_of c.kind_at.ensures (to_z-of_z {w = w32} f)
 
 -- The record's length is within the buffer, which keeps its own

@@ -1,0 +1,22 @@
+-- After i turns the first i limits are filled in, behind minima that stay.
+use Prim.Native.Nat.{ℕ, ◌≤◌, ◌+◌, ◌*◌, ◌-◌}
+use mathlib.Core.Path.{◌≡◌, refl, sym, ap, ap₂, ◌∙◌}
+use mathlib.Core.List.{List, ◌++◌}
+use native.Mathlib.Omega.{arith}
+use lib.ListN.{length, set, take, take-append-drop, length-drop}
+use Rattle.model.specs.Block.{most_bits}
+use Rattle.metric.specs.Parts.{filled}
+use Rattle.metric.proofs.Filled.{filled_more, filled_length}
+use Rattle.search_spec.specs.Program.{Taken, taken_in, limits_of}
+use Rattle.hypotheses.specs.Limits.{vector_for, limit_at, minima_size}
+use Rattle.search_spec.proofs.Minima.{taken_kept, limits_whole, limit_set}
+use Rattle.hypotheses.proofs.limit_all.Given as goal
+
+abbrev pub invariant-loop-i : goal.invariant-loop-i
+invariant-loop-i l =
+    (l.n ≡ l.task.streams * l.task.width) × (l.i ≤ l.n)
+    × (l.minima
+    ≡ take (2 * most_bits) l.initial.minima ++ filled (limit_at (vector_for l.task l.numbers) (taken_in l.best.bits l.best.partial l.initial.minima)) l.i (limits_of l.initial.minima))
+
+abbrev pub decreases-loop-i : goal.decreases-loop-i
+decreases-loop-i l = l.n - l.i
