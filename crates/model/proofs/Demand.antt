@@ -1,6 +1,6 @@
 -- Demands 2 and 3 hold of the answers, and only of them: a complete vector's walk is whole, so pruning-exact and the laws of `pick` and
 -- the least metrics over all labels apply; the allowance leaves each vector M nodes or more.
-use Prim.Native.Nat.{ℕ, zero, suc, ◌+◌, ◌-◌, ◌*◌, ◌≤◌, ◌<◌, min}
+use Prim.Native.Nat.{ℕ, zero, suc, ◌+◌, ◌*◌, ◌≤◌, ◌<◌, min}
 use mathlib.Core.Path.{◌≡◌, refl, sym, ◌∙◌, ap, ap₂, subst}
 use mathlib.Core.Bool.{Bool, true, false}
 use mathlib.Core.Logic.{inl, inr}

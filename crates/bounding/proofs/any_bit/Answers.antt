@@ -2,10 +2,9 @@
 -- inside the loop.
 use Prim.Native.Nat.{ℕ, suc, ◌+◌, ◌-◌, ◌*◌, ◌%◌, ◌^◌, ◌≤◌, ◌<◌}
 use mathlib.Core.Path.{◌≡◌, sym, ◌∙◌, ap, ap₂, subst}
-use mathlib.Core.Bool.{Bool, cond, ◌||◌, beq}
+use mathlib.Core.Bool.{Bool, cond, beq}
 use native.Mathlib.Nat.{mul-le-mul}
 use native.Mathlib.Omega.{arith}
-use borrow.Author.Tests.{lt-ltb, le-ltb}
 use lib.IntN.{ℤ, pos, nat_abs, ◌-ℤ◌}
 use lib.Pow.{pow_mono, shl_exact}
 use lib.Signed.{lt_z}
@@ -136,11 +135,10 @@ returns-then-reached-entries c =
     bit_open _ _ _ _ _ _ _ _ _ (x c.before.before.before.before) (simp to_z-of_z at (was c.before.before.before.before)) (few (turn c.before.before.before.before)).0 _ _ (reached_is c.before.before.before) (place_is c.before.before.before) c.if-reached-entries.true
 
 pub loop-i-preserved : goal.loop-i-preserved
-loop-i-preserved c =
-    (
-      subst (λ (z : ℤ). nat_abs z < remainder_bound) (sym (to_z-of_z (next_fits c.before.before.before.before))) (next_small c.before.before.before.before),
-      rw (folded c.before.before.before.before) (bit_past _ _ _ _ _ _ _ _ _ (x c.before.before.before.before) (was c.before.before.before.before) (few (turn c.before.before.before.before)).0 _ _ (reached_is c.before.before.before) (place_is c.before.before.before) c.if-reached-entries.false),
-    )
+loop-i-preserved c = (
+  subst (λ (z : ℤ). nat_abs z < remainder_bound) (sym (to_z-of_z (next_fits c.before.before.before.before))) (next_small c.before.before.before.before),
+  rw (folded c.before.before.before.before) (bit_past _ _ _ _ _ _ _ _ _ (x c.before.before.before.before) (was c.before.before.before.before) (few (turn c.before.before.before.before)).0 _ _ (reached_is c.before.before.before) (place_is c.before.before.before) c.if-reached-entries.false),
+)
 
 pub returns : goal.returns
 unfolding bits_open

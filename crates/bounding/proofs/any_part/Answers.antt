@@ -1,14 +1,11 @@
 -- The invariant: whether a part is below its entry is whether one of the parts from g on is. What remains is its bits inside the loop.
-use Prim.Native.Nat.{◌+◌, ◌-◌, ◌*◌, ◌^◌, ◌<◌}
-use mathlib.Core.Path.{◌≡◌, refl}
+use Prim.Native.Nat.{◌+◌, ◌*◌, ◌<◌}
+use mathlib.Core.Path.{◌≡◌}
 use native.Mathlib.Omega.{arith}
 use lib.Bits.{bit_xor}
-use mir.Syntax.{w64}
-use mir.Val.{to_z}
 use mir.Facts.{to_z-of_z}
 use Rattle.metric.specs.Parts.{span}
 use Rattle.axes.specs.Tables.{table_part}
-use Rattle.bounding.specs.Answers.{any_part}
 use Rattle.bounding.proofs.Runs.{labels_few, label_asked, entry_place_lem}
 use Rattle.bounding.proofs.Answers.{part_open, part_past, part_end}
 use Rattle.bounding.proofs.any_part.Lts as lts

@@ -1,12 +1,6 @@
 -- The invariant: `least` is the least of the first g parts. What remains is its bits inside the loop.
-use Prim.Native.Nat.{◌-◌, ◌^◌, ◌≤◌}
-use mathlib.Core.Path.{◌≡◌}
-use mathlib.Core.Logic.{⊎_elim}
 use native.Mathlib.Omega.{arith}
-use mir.Syntax.{w64}
-use mir.Val.{to_z}
 use mir.Facts.{to_z-of_z}
-use Rattle.axes.specs.Tables.{table_part}
 use Rattle.bounding.specs.Answers.{least_part}
 use Rattle.bounding.proofs.Runs.{labels_few, label_asked}
 use Rattle.bounding.proofs.Answers.{least_next}
@@ -37,7 +31,7 @@ loop-g-preserved c =
       omega arith,
       least_next _ c.loop-g.g was.1 _ _ was.3
           (elim c.if-part-least.branch [
-            then-part-least w ↦ omega (arith, w.if-part-least.true, w.least-is, is)
-          | else-part-least w ↦ omega (arith, w.if-part-least.false, w.least-is, is)
+            | then-part-least w ↦ omega (arith, w.if-part-least.true, w.least-is, is)
+            | else-part-least w ↦ omega (arith, w.if-part-least.false, w.least-is, is)
           ]),
     )

@@ -1,15 +1,8 @@
 -- The invariant: `least` is the least of the first g parts. What remains is its bits inside the loop.
 use Prim.Native.Nat.{◌-◌, ◌^◌, ◌≤◌}
 use mathlib.Core.Path.{◌≡◌}
-use mathlib.Core.Logic.{⊎_elim}
-use native.Mathlib.Omega.{arith}
-use mir.Syntax.{w64}
-use mir.Val.{to_z}
-use mir.Facts.{to_z-of_z}
 use Rattle.axes.specs.Tables.{table_part}
 use Rattle.bounding.specs.Answers.{least_part}
-use Rattle.bounding.proofs.Runs.{labels_few, label_asked}
-use Rattle.bounding.proofs.Answers.{least_next}
 use Rattle.bounding.proofs.least_among.Given as goal
 
 abbrev pub invariant-loop-g : goal.invariant-loop-g

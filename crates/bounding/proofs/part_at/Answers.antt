@@ -1,7 +1,6 @@
 -- The part by the table's two entries.
 use borrow.Author.Rules.{sfits_of}
 use Prim.Native.Nat.{◌+◌}
-use native.Mathlib.Omega.{arith}
 use lib.IntN.{pos}
 use lib.ListN.{get_or}
 use mir.Syntax.{w32}

@@ -1,7 +1,5 @@
 -- One axis, then the other.
-use borrow.Author.Rules.{rules}
 use mathlib.Core.Path.{sym, ◌∙◌}
-use native.Mathlib.Omega.{arith}
 use Rattle.bounding.specs.Axes.{priced_by}
 use Rattle.bounding.proofs.Costs.{first_met, second_left}
 use Rattle.bounding.proofs.priced.Goals as goal

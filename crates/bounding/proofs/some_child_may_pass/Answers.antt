@@ -3,12 +3,10 @@ use borrow.Author.Rules.{sfits_of}
 use Prim.Native.Nat.{ℕ, ◌+◌, ◌-◌, ◌*◌, ◌/◌, ◌%◌, ◌^◌, ◌≤◌, ◌<◌}
 use mathlib.Core.Path.{◌≡◌, sym, ◌∙◌, ap, ap₂, subst}
 use mathlib.Core.Bool.{Bool, false, ◌&&◌}
-use mathlib.Core.Logic.{⊎_elim}
 use native.Mathlib.Omega.{arith}
-use lib.Dec.{T, ltb}
+use lib.Dec.{ltb}
 use lib.IntN.{ℤ, pos, nat_abs}
 use lib.ListN.{get_or}
-use lib.Signed.{non_neg}
 use mir.Syntax.{w64}
 use mir.Val.{SFits, to_z, of_z}
 use mir.Facts.{to_z-of_z}
@@ -186,8 +184,8 @@ returns-then-any_bit_of c =
 first_shut : (c : lts.Joined2 tie.the-claims reads.Pre reads.Post) → (ltb (low c.before.before.before) (widest c.before.before.before) && any_re c.before.before.before) ≡ false
 first_shut c =
     elim c.if-low-entries.branch as (λ _. (ltb (low c.before.before.before) (widest c.before.before.before) && any_re c.before.before.before) ≡ false) [
-      then-low-entries+else-any_bit_of w ↦ first_asked 0 (low c.before.before.before) (widest c.before.before.before) (any_re c.before.before.before) 0 false w.if-low-entries.true (sym w.any_bit_of.ensures ∙ w.if-any_bit_of.false)
-    | else-low-entries w ↦ first_unasked 0 (low c.before.before.before) (widest c.before.before.before) (any_re c.before.before.before) 0 false w.if-low-entries.false
+      | then-low-entries+else-any_bit_of w ↦ first_asked 0 (low c.before.before.before) (widest c.before.before.before) (any_re c.before.before.before) 0 false w.if-low-entries.true (sym w.any_bit_of.ensures ∙ w.if-any_bit_of.false)
+      | else-low-entries w ↦ first_unasked 0 (low c.before.before.before) (widest c.before.before.before) (any_re c.before.before.before) 0 false w.if-low-entries.false
     ]
 
 pub returns-then-entries-ones : goal.returns-then-entries-ones

@@ -2,7 +2,6 @@
 use Prim.Native.Nat.{ℕ, ◌+◌, ◌-◌, ◌*◌, ◌/◌, ◌%◌, ◌^◌, ◌≤◌, ◌<◌}
 use mathlib.Core.Path.{◌≡◌, sym, ◌∙◌, ap₂, subst}
 use mathlib.Core.Bool.{Bool, false, ◌&&◌}
-use mathlib.Core.Logic.{⊎_elim}
 use native.Mathlib.Omega.{arith}
 use lib.Dec.{ltb}
 use lib.IntN.{ℤ}
@@ -144,8 +143,8 @@ module _ (c : lts.Joined2 tie.the-claims reads.Pre reads.Post) where
   first_shut : (ltb (least found) (widest found) && any_re found) ≡ false
   first_shut =
       elim c.if-least-entries.branch as (λ _. (ltb (least found) (widest found) && any_re found) ≡ false) [
-        then-least-entries+else-any_part_of w ↦ first_asked 0 (least found) (widest found) (any_re found) 0 false w.if-least-entries.true (sym w.any_part_of.ensures ∙ w.if-any_part_of.false)
-      | else-least-entries w ↦ first_unasked 0 (least found) (widest found) (any_re found) 0 false w.if-least-entries.false
+        | then-least-entries+else-any_part_of w ↦ first_asked 0 (least found) (widest found) (any_re found) 0 false w.if-least-entries.true (sym w.any_part_of.ensures ∙ w.if-any_part_of.false)
+        | else-least-entries w ↦ first_unasked 0 (least found) (widest found) (any_re found) 0 false w.if-least-entries.false
       ]
 
 pub any_part_of-requires-2 : goal.any_part_of-requires-2

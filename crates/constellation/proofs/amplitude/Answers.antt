@@ -1,13 +1,8 @@
 -- The label's place is within the table, and the table has the amplitude there.
-use borrow.Author.Rules.{rules, sfits_of}
-use Prim.Native.Nat.{ℕ, ◌+◌, ◌*◌, ◌%◌, ◌^◌, ◌<◌}
-use mathlib.Core.Path.{◌≡◌, ◌∙◌, ap}
+use Prim.Native.Nat.{◌+◌, ◌*◌, ◌%◌, ◌^◌, ◌<◌}
+use mathlib.Core.Path.{◌≡◌}
 use native.Mathlib.Omega.{arith}
-use lib.IntN.{pos}
-use lib.ListN.{get_or}
 use lib.Pow.{shl_exact, pow_mono}
-use mir.Syntax.{w8}
-use mir.Facts.{to_z-of_z}
 use Rattle.constellation.proofs.amplitude.Lts as lts
 use Rattle.constellation.proofs.amplitude.Reads as reads
 use Rattle.constellation.proofs.amplitude.Goals as goal

@@ -1,12 +1,9 @@
 -- A width other than 8 is at most 6.
-use borrow.Author.Rules.{rules}
 use Prim.Native.Nat.{ℕ, ◌≤◌}
-use mathlib.Core.Path.{subst, sym}
 use mathlib.Core.Logic.{◌≢◌}
 use native.Mathlib.Omega.{arith}
 use Rattle.model.specs.Block.{widths, ◌∈◌}
 use Rattle.model.proofs.Bounds.{of_every}
-use Rattle.constellation.specs.Points.{Filled}
 use Rattle.constellation.proofs.fill.Goals as goal
 
 narrow : (q : ℕ) → q ∈ widths → q ≢ 8 → q ≤ 6

@@ -1,17 +1,7 @@
 -- The loop fills in one point after the other, from the amplitudes of the two halves of its label.
-use borrow.Author.Rules.{rules, sfits_of}
-use mathlib.Core.Path.{◌≡◌, refl, sym, ap, ap₂, ◌∙◌}
-use Prim.Native.Nat.{ℕ, ◌+◌, ◌-◌, ◌*◌, ◌/◌, ◌^◌, ◌≤◌, ◌<◌}
-use native.Mathlib.Nat.{mod-lt}
-use native.Mathlib.Omega.{arith}
-use lib.Pow.{shl_exact, pow_mono, pow_pos}
-use mir.Syntax.{w8}
-use mir.Facts.{to_z-of_z}
-use Rattle.model.specs.Constellation.{amplitude, bits_of}
-use Rattle.model.specs.Soft.{up_from}
-use Rattle.model.proofs.Numbers.{first_half}
-use Rattle.constellation.specs.Points.{complex_of, Axes, FilledTo}
-use Rattle.constellation.proofs.Tables.{axis, table_axes, point_halves, none_filled, filled_more}
+use mathlib.Core.Path.{◌≡◌}
+use Prim.Native.Nat.{◌-◌, ◌^◌, ◌≤◌}
+use Rattle.constellation.specs.Points.{Axes, FilledTo}
 use Rattle.constellation.proofs.fill_by_axes.Given as goal
 
 abbrev pub invariant-loop-s : goal.invariant-loop-s

@@ -1,12 +1,11 @@
 -- A mask of h ones leaves the remainder by 2^h.
-use borrow.Author.Rules.{rules}
 use mathlib.Core.Path.{◌≡◌, ◌∙◌}
 use Prim.Native.Nat.{ℕ, ◌*◌, ◌/◌, ◌%◌, ◌^◌, ◌≤◌}
 use native.Mathlib.Nat.{one-mul}
 use native.Mathlib.Omega.{arith}
 use lib.Bits.{and_mask}
 use lib.Dec.{lit<}
-use lib.Pow.{shl_exact, pow_pos}
+use lib.Pow.{shl_exact}
 use Rattle.constellation.proofs.imaginary_label.Lts as lts
 use Rattle.constellation.proofs.imaginary_label.Reads as reads
 use Rattle.constellation.proofs.imaginary_label.Goals as goal

@@ -1,5 +1,4 @@
 -- The children are measured, and the column with the smallest imaginary part gives the smallest of each row, and is kept for each row.
-use borrow.Author.Rules.{rules}
 use Prim.Native.Nat.{◌+◌, ◌-◌, ◌*◌, ◌/◌, ◌≤◌, ◌<◌, ◌^◌}
 use mathlib.Core.Path.{ap, ◌∙◌}
 use native.Mathlib.Omega.{arith}

@@ -1,11 +1,7 @@
 -- The invariant: the first a rows have their smallest key.
-use borrow.Author.Rules.{rules}
-use mathlib.Core.Path.{◌≡◌, refl, ap, ◌∙◌}
-use Prim.Native.Nat.{◌+◌, ◌-◌, ◌≤◌, ◌<◌}
-use native.Mathlib.Omega.{arith}
-use lib.ListN.{length}
+use mathlib.Core.Path.{◌≡◌}
+use Prim.Native.Nat.{◌-◌, ◌≤◌}
 use Rattle.metric.specs.Parts.{filled_from}
-use Rattle.metric.proofs.Filled.{from_more, from_length}
 use Rattle.enumeration.specs.Rows.{column_metric}
 use Rattle.enumeration.proofs.fill_row_least.Given as goal
 

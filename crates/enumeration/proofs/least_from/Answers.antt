@@ -1,8 +1,7 @@
 -- The invariant: `least` is the place of the smallest of the first k keys, and `key` is that key.
 use mathlib.Core.Path.{◌≡◌, sym, ap, ◌∙◌}
-use mathlib.Core.Logic.{⊎_elim}
 use mathlib.Core.List.{List}
-use Prim.Native.Nat.{ℕ, ◌+◌, ◌≤◌, ◌<◌, ◌-◌}
+use Prim.Native.Nat.{ℕ, ◌+◌, ◌≤◌, ◌<◌}
 use native.Mathlib.Omega.{arith}
 use native.Mathlib.Nat.{le_refl}
 use lib.ListN.{get_or, drop}
@@ -35,14 +34,14 @@ loop-k-preserved c =
     let e = c.loop-k.invariant.3 in
     let k = c.loop-k.invariant.4 in
     elim c.if-next-key.branch [
-      then-next-key w ↦ (
+      | then-next-key w ↦ (
         omega arith,
         omega arith,
         omega arith,
         w.least-is ∙ taken a.keys.now a.from c.loop-k.least c.loop-k.k e (omega (arith, w.if-next-key.true)),
         w.key-is ∙ ap (λ (x : ℕ). get_or a.keys.now (a.from + x) 0) (sym w.least-is),
       )
-    | else-next-key w ↦ (
+      | else-next-key w ↦ (
         omega arith,
         omega arith,
         omega arith,
@@ -50,4 +49,3 @@ loop-k-preserved c =
         w.key-is ∙ k ∙ ap (λ (x : ℕ). get_or a.keys.now (a.from + x) 0) (sym w.least-is),
       )
     ]
-

@@ -1,15 +1,8 @@
 -- The invariant: `least` is the place of the smallest of the first k keys, and `key` is that key.
-use mathlib.Core.Path.{◌≡◌, sym, ap, ◌∙◌}
-use mathlib.Core.Logic.{⊎_elim}
-use mathlib.Core.List.{List}
-use Prim.Native.Nat.{ℕ, ◌+◌, ◌≤◌, ◌<◌, ◌-◌}
-use native.Mathlib.Omega.{arith}
-use native.Mathlib.Nat.{le_refl}
+use mathlib.Core.Path.{◌≡◌}
+use Prim.Native.Nat.{◌+◌, ◌≤◌, ◌<◌, ◌-◌}
 use lib.ListN.{get_or, drop}
-use lib.Seq.{get_or-drop}
-use borrow.Author.Tests.{le-ltb}
-use Rattle.search_spec.specs.Arrays.{smaller_at, least_first}
-use Rattle.search_spec.proofs.Arrays.{least_take, least_keep}
+use Rattle.search_spec.specs.Arrays.{least_first}
 use Rattle.enumeration.proofs.least_from.Given as goal
 
 abbrev pub invariant-loop-k : goal.invariant-loop-k

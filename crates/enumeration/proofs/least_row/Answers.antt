@@ -1,8 +1,6 @@
 -- Of the rows' smallest keys, which stand behind the children's, the first one of the smallest.
 use Prim.Native.Nat.{◌-◌, ◌/◌}
-use borrow.Author.Rules.{rules}
 use native.Mathlib.Omega.{arith}
-use lib.Pow.{pow_pos}
 use Rattle.metric.proofs.Shifts.{one_shifted}
 use Rattle.enumeration.proofs.Taking.{least_row}
 use Rattle.enumeration.proofs.least_row.Goals as goal

@@ -1,6 +1,5 @@
 -- The row's smallest key is taken, in the column that is kept; then the smallest that is left there, and its column, are put behind the keys.
 use Prim.Native.Nat.{◌+◌, ◌-◌, ◌*◌, ◌/◌, ◌%◌, ◌≤◌, ◌<◌, ◌^◌}
-use borrow.Author.Rules.{rules}
 use mathlib.Core.Path.{refl}
 use native.Mathlib.Omega.{arith}
 use lib.ListN.{length, get_or, length-set}

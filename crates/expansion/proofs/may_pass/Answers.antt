@@ -4,9 +4,7 @@ use mathlib.Core.Path.{◌≡◌, refl, sym, ◌∙◌, ap, ap₂}
 use mathlib.Core.Bool.{Bool, true, not, ◌&&◌, ◌||◌}
 use mathlib.Core.List.{List}
 use native.Mathlib.Omega.{arith}
-use borrow.Author.Rules.{rules}
 use borrow.Author.Tests.{not-true, not-false, eq-eqb, ne_eqb}
-use mathlib.Core.Logic.{⊎_elim}
 use lib.Dec.{eqb}
 use lib.ListN.{take, drop}
 use Rattle.metric.specs.Parts.{span}
@@ -19,7 +17,7 @@ use Rattle.bounding.proofs.Parts.{parts_asked}
 use Rattle.limits.specs.Reach.{entry_place}
 use Rattle.expansion.specs.Expand.{may_pass_at}
 use Rattle.expansion.proofs.Kids.{entries_are, entries_many, entries_wide, opens_at}
-use Rattle.expansion.proofs.Nodes.{partial_few, row_inside, chosen_few}
+use Rattle.expansion.proofs.Nodes.{partial_few, row_inside}
 use Rattle.expansion.proofs.may_pass.Lts as lts
 use Rattle.expansion.proofs.may_pass.Reads as reads
 use Rattle.expansion.proofs.may_pass.Tie as tie
@@ -104,9 +102,9 @@ is_open_lem e = sym e.some_child_may_pass.ensures ∙ not-false _ e.if-not-some_
 unasked : (c : lts.Joined2 tie.the-claims reads.Pre reads.Post) → not (eqb (row c.before.before.before.before) 0 && priced c.before.before.before.before) ≡ true
 unasked c =
     elim c.then-row-ne0.branch as (λ _. not (eqb (row c.before.before.before.before) 0 && priced c.before.before.before.before) ≡ true) [
-      then-row-ne0-via-then-row-ne0 w ↦ ap (λ (b : Bool). not (b && priced c.before.before.before.before)) (ne_eqb (row c.before.before.before.before) 0 w.if-row-ne0.true)
-    | then-row-ne0-via-else-row-ne0+then-not-priced w ↦
-        ap₂ (λ (a b : Bool). not (a && b)) (eq-eqb (row c.before.before.before.before) 0 w.if-row-ne0.false) (sym w.priced.ensures ∙ not-true _ w.if-not-priced.true-raw)
+      | then-row-ne0-via-then-row-ne0 w ↦ ap (λ (b : Bool). not (b && priced c.before.before.before.before)) (ne_eqb (row c.before.before.before.before) 0 w.if-row-ne0.true)
+      | then-row-ne0-via-else-row-ne0+then-not-priced w ↦
+          ap₂ (λ (a b : Bool). not (a && b)) (eq-eqb (row c.before.before.before.before) 0 w.if-row-ne0.false) (sym w.priced.ensures ∙ not-true _ w.if-not-priced.true-raw)
     ]
 
 pub returns-then-row-ne0 : goal.returns-then-row-ne0

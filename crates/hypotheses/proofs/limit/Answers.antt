@@ -6,8 +6,7 @@ use native.Mathlib.Omega.{arith}
 use borrow.Author.Tests.{le-ltb}
 use lib.IntN.{ℤ, pos, negsuc, nat_abs}
 use lib.Signed.{lt_z}
-use mir.Facts.{to_z-of_z, Fits-nat_abs}
-use Rattle.integers.proofs.Fits.{non_neg-of}
+use mir.Facts.{to_z-of_z}
 use Rattle.hypotheses.specs.Limits.{up_of}
 use Rattle.hypotheses.proofs.limit.Lts as lts
 use Rattle.hypotheses.proofs.limit.Reads as reads

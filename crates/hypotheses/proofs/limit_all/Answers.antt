@@ -1,15 +1,15 @@
 -- After i turns the first i limits are filled in, behind minima that stay.
-use Prim.Native.Nat.{ℕ, ◌≤◌, ◌+◌, ◌*◌, ◌-◌}
-use mathlib.Core.Path.{◌≡◌, refl, sym, ap, ap₂, ◌∙◌}
+use Prim.Native.Nat.{ℕ, ◌≤◌, ◌+◌, ◌*◌}
+use mathlib.Core.Path.{refl, sym, ap, ap₂, ◌∙◌}
 use mathlib.Core.List.{List, ◌++◌}
 use native.Mathlib.Omega.{arith}
-use lib.ListN.{length, set, take, take-append-drop, length-drop}
+use lib.ListN.{length, set, take, take-append-drop}
 use Rattle.model.specs.Block.{most_bits}
 use Rattle.metric.specs.Parts.{filled}
-use Rattle.metric.proofs.Filled.{filled_more, filled_length}
+use Rattle.metric.proofs.Filled.{filled_more}
 use Rattle.search_spec.specs.Program.{Taken, taken_in, limits_of}
-use Rattle.hypotheses.specs.Limits.{vector_for, limit_at, minima_size}
-use Rattle.search_spec.proofs.Minima.{taken_kept, limits_whole, limit_set}
+use Rattle.hypotheses.specs.Limits.{vector_for, limit_at}
+use Rattle.search_spec.proofs.Minima.{taken_kept, limit_set}
 use Rattle.hypotheses.proofs.limit_all.Goals as goal
 
 pub loop-i-init : goal.loop-i-init

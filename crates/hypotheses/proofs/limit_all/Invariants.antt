@@ -1,15 +1,12 @@
 -- After i turns the first i limits are filled in, behind minima that stay.
-use Prim.Native.Nat.{ℕ, ◌≤◌, ◌+◌, ◌*◌, ◌-◌}
-use mathlib.Core.Path.{◌≡◌, refl, sym, ap, ap₂, ◌∙◌}
-use mathlib.Core.List.{List, ◌++◌}
-use native.Mathlib.Omega.{arith}
-use lib.ListN.{length, set, take, take-append-drop, length-drop}
+use Prim.Native.Nat.{◌≤◌, ◌*◌, ◌-◌}
+use mathlib.Core.Path.{◌≡◌}
+use mathlib.Core.List.{◌++◌}
+use lib.ListN.{take}
 use Rattle.model.specs.Block.{most_bits}
 use Rattle.metric.specs.Parts.{filled}
-use Rattle.metric.proofs.Filled.{filled_more, filled_length}
-use Rattle.search_spec.specs.Program.{Taken, taken_in, limits_of}
-use Rattle.hypotheses.specs.Limits.{vector_for, limit_at, minima_size}
-use Rattle.search_spec.proofs.Minima.{taken_kept, limits_whole, limit_set}
+use Rattle.search_spec.specs.Program.{taken_in, limits_of}
+use Rattle.hypotheses.specs.Limits.{vector_for, limit_at}
 use Rattle.hypotheses.proofs.limit_all.Given as goal
 
 abbrev pub invariant-loop-i : goal.invariant-loop-i

@@ -1,15 +1,14 @@
 -- The bit, its prior and the limit by the clip are the definition's; task and ranges are those asked.
-use Prim.Native.Nat.{ℕ, ◌+◌, ◌≤◌, ◌<◌, ◌*◌, ◌^◌, min}
+use Prim.Native.Nat.{ℕ, ◌+◌, ◌<◌, ◌*◌, ◌^◌, min}
 use mathlib.Core.Bool.{Bool, cond}
 use mathlib.Core.Path.{◌≡◌, sym, ap, ◌∙◌}
 use native.Mathlib.Omega.{arith}
-use borrow.Author.Rules.{rules, sfits_of}
+use borrow.Author.Rules.{sfits_of}
 use lib.IntN.{ℤ, nat_abs}
 use lib.ListN.{get_or}
 use mir.Syntax.{w64}
 use mir.Val.{SFits}
 use mir.Facts.{to_z-of_z}
-use Rattle.model.specs.Block.{most_bits}
 use Rattle.model.specs.Metric.{Vector, label_bits, prior_at}
 use Rattle.block.proofs.Places.{all_priors_at, rows_count}
 use Rattle.metric.specs.Parts.{bit_of}

@@ -1,10 +1,8 @@
 -- After i turns the first i bits are noted.
-use mathlib.Core.Path.{◌≡◌, refl, subst}
-use Prim.Native.Nat.{ℕ, ◌≤◌, ◌<◌, ◌-◌}
+use mathlib.Core.Path.{refl}
+use Prim.Native.Nat.{◌<◌}
 use native.Mathlib.Omega.{arith}
 use Rattle.model.specs.Block.{most_bits}
-use Rattle.search_spec.specs.Program.{limits_of}
-use Rattle.hypotheses.specs.Limits.{NotedTo}
 use Rattle.hypotheses.proofs.Leaves.{none_noted, one_noted, limits_kept}
 use Rattle.hypotheses.proofs.note.Lts as lts
 use Rattle.hypotheses.proofs.note.Reads as reads
@@ -16,13 +14,12 @@ small : (c : lts.In-loop tie.the-claims reads.Pre reads.Post goal.the-invariant-
 small c = omega arith
 
 pub loop-i-preserved : goal.loop-i-preserved
-loop-i-preserved c =
-    (
-      omega arith,
-      one_noted _ _ _ _ (small c.before.before.before.before.before.before.before) c.loop-i.invariant.1 c.bit_at-bit.ensures c.minimum_place.ensures.0
-          c.lower.ensures,
-      limits_kept c.args.minima.now c.loop-i.minima _ _ c.loop-i.invariant.2 c.minimum_place.ensures.1 c.lower.ensures,
-    )
+loop-i-preserved c = (
+  omega arith,
+  one_noted _ _ _ _ (small c.before.before.before.before.before.before.before) c.loop-i.invariant.1 c.bit_at-bit.ensures c.minimum_place.ensures.0
+      c.lower.ensures,
+  limits_kept c.args.minima.now c.loop-i.minima _ _ c.loop-i.invariant.2 c.minimum_place.ensures.1 c.lower.ensures,
+)
 
 pub loop-i-init : goal.loop-i-init
 loop-i-init c =

@@ -1,11 +1,8 @@
 -- After i turns the first i bits are noted.
-use mathlib.Core.Path.{◌≡◌, refl, subst}
-use Prim.Native.Nat.{ℕ, ◌≤◌, ◌<◌, ◌-◌}
-use native.Mathlib.Omega.{arith}
-use Rattle.model.specs.Block.{most_bits}
+use mathlib.Core.Path.{◌≡◌}
+use Prim.Native.Nat.{◌≤◌, ◌-◌}
 use Rattle.search_spec.specs.Program.{limits_of}
 use Rattle.hypotheses.specs.Limits.{NotedTo}
-use Rattle.hypotheses.proofs.Leaves.{none_noted, one_noted, limits_kept}
 use Rattle.hypotheses.proofs.note.Given as goal
 
 abbrev pub invariant-loop-i : goal.invariant-loop-i

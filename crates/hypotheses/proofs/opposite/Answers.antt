@@ -1,6 +1,5 @@
 -- Each minimum stands in its run.
-use borrow.Author.Rules.{rules}
-use Rattle.search_spec.proofs.Minima.{zero_at, one_at}
+use Rattle.search_spec.proofs.Minima.{one_at}
 use Rattle.hypotheses.proofs.opposite.Goals as goal
 
 pub returns-else-bit : goal.returns-else-bit

@@ -1,5 +1,4 @@
 -- The limits are filled in behind the minima, and then what they give behind the limits.
-use borrow.Author.Rules.{rules}
 use Prim.Native.Nat.{ℕ}
 use mathlib.Core.Path.{sym, ◌∙◌, ap}
 use mathlib.Core.List.{List}

@@ -1,12 +1,8 @@
 -- The invariant: the first g places behind the entries are filled.
-use borrow.Author.Rules.{rules}
-use mathlib.Core.Path.{◌≡◌, refl, ap, ◌∙◌}
-use Prim.Native.Nat.{◌+◌, ◌-◌, ◌≤◌, ◌<◌}
+use mathlib.Core.Path.{refl}
 use native.Mathlib.Omega.{arith}
-use lib.ListN.{length}
 use Rattle.metric.specs.Parts.{filled_from}
-use Rattle.metric.proofs.Filled.{from_length}
-use Rattle.limits.proofs.Axes.{doubled_by, double_more}
+use Rattle.limits.proofs.Axes.{double_more}
 use Rattle.limits.proofs.double.Goals as goal
 
 pub loop-g-init : goal.loop-g-init

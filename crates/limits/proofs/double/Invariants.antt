@@ -1,12 +1,8 @@
 -- The invariant: the first g places behind the entries are filled.
-use borrow.Author.Rules.{rules}
-use mathlib.Core.Path.{◌≡◌, refl, ap, ◌∙◌}
-use Prim.Native.Nat.{◌+◌, ◌-◌, ◌≤◌, ◌<◌}
-use native.Mathlib.Omega.{arith}
-use lib.ListN.{length}
+use mathlib.Core.Path.{◌≡◌}
+use Prim.Native.Nat.{◌+◌, ◌-◌, ◌≤◌}
 use Rattle.metric.specs.Parts.{filled_from}
-use Rattle.metric.proofs.Filled.{from_length}
-use Rattle.limits.proofs.Axes.{doubled_by, double_more}
+use Rattle.limits.proofs.Axes.{doubled_by}
 use Rattle.limits.proofs.double.Given as goal
 
 abbrev pub invariant-loop-g : goal.invariant-loop-g

@@ -3,11 +3,9 @@
 use mathlib.Core.Path.{◌≡◌, refl, sym, ap, ◌∙◌, subst}
 use mathlib.Core.List.{List}
 use Prim.Native.Nat.{ℕ, ◌+◌, ◌-◌, ◌*◌, ◌/◌, ◌%◌, ◌^◌, ◌≤◌, ◌<◌}
-use native.Mathlib.Nat.{mul-le-mul}
 use native.Mathlib.Numerals.{add-one}
 use native.Mathlib.Omega.{arith}
-use lib.ListN.{set}
-use Rattle.model.specs.Block.{most_streams, most_width, most_bits}
+use Rattle.model.specs.Block.{most_streams, most_bits}
 use Rattle.limits.specs.Reach.{limit_in, StreamRight, symbol_of, stream_in, reaches_in}
 use Rattle.limits.proofs.Streams.{bits_few, Filling, still_right, filling}
 use Rattle.limits.proofs.fill.Lts as lts

@@ -1,6 +1,4 @@
 -- The entries stand already, or the two axes are filled, one after the other.
-use borrow.Author.Rules.{rules}
-use mathlib.Core.Path.{◌∙◌}
 use native.Mathlib.Omega.{arith}
 use lib.Pow.{pow_mono}
 use Rattle.axes.specs.Tables.Axis.{real, imaginary}

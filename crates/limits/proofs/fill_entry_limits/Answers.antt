@@ -1,11 +1,9 @@
 -- The invariant: the entries of the last b bits are there. The array was one that had another first entry, whatever that was.
-use borrow.Author.Rules.{rules}
-use mathlib.Core.Path.{◌≡◌, refl, sym, subst}
+use mathlib.Core.Path.{refl, sym, subst}
 use mathlib.Core.List.{List}
-use Prim.Native.Nat.{ℕ, ◌+◌, ◌-◌, ◌^◌, ◌≤◌, ◌<◌}
+use Prim.Native.Nat.{ℕ, ◌<◌}
 use native.Mathlib.Nat.{pow-suc}
 use native.Mathlib.Omega.{arith}
-use lib.ListN.{length, set}
 use lib.Pow.{pow_pos, pow_mono}
 use Rattle.metric.specs.Parts.{axis_width}
 use Rattle.metric.proofs.Shifts.{one_shifted}

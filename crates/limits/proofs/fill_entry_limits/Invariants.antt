@@ -1,16 +1,9 @@
 -- The invariant: the entries of the last b bits are there. The array was one that had another first entry, whatever that was.
-use borrow.Author.Rules.{rules}
-use mathlib.Core.Path.{◌≡◌, refl, sym, subst}
+use mathlib.Core.Path.{◌≡◌}
 use mathlib.Core.List.{List}
-use Prim.Native.Nat.{ℕ, ◌+◌, ◌-◌, ◌^◌, ◌≤◌, ◌<◌}
-use native.Mathlib.Nat.{pow-suc}
-use native.Mathlib.Omega.{arith}
+use Prim.Native.Nat.{ℕ, ◌+◌, ◌-◌, ◌^◌, ◌≤◌}
 use lib.ListN.{length, set}
-use lib.Pow.{pow_pos, pow_mono}
-use Rattle.metric.specs.Parts.{axis_width}
-use Rattle.metric.proofs.Shifts.{one_shifted}
 use Rattle.limits.specs.Reach.{AxisFilled}
-use Rattle.limits.proofs.Axes.{axis_none, axis_more}
 use Rattle.limits.proofs.fill_entry_limits.Given as goal
 
 abbrev pub invariant-loop-b : goal.invariant-loop-b

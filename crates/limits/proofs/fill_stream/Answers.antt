@@ -1,12 +1,10 @@
 -- The two axes, then the widest limit of all bits of the stream, beside that of the streams before it.
-use borrow.Author.Rules.{rules}
 use mathlib.Core.Path.{◌≡◌, sym, ◌∙◌, ap, ap₂, subst}
 use mathlib.Core.List.{List}
 use Prim.Native.Nat.{ℕ, ◌+◌, ◌-◌, ◌*◌, ◌%◌, ◌^◌, max}
 use native.Mathlib.Omega.{arith}
 use native.Mathlib.Numerals.{add-one}
-use lib.ListN.{get_or, set, length-set}
-use lib.Pow.{pow_pos, ones_lt}
+use lib.ListN.{get_or, set}
 use Rattle.metric.proofs.Shifts.{one_shifted}
 use Rattle.limits.specs.Reach.{first_place, stream_reach, stream_in}
 use Rattle.limits.proofs.Streams.{AxesFilled, axes_in_lem, widest_is}

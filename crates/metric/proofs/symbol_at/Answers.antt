@@ -1,9 +1,7 @@
 -- A shift and a mask of q bits read the symbol off.
-use borrow.Author.Rules.{rules}
 use Prim.Native.Nat.{◌≤◌}
 use native.Mathlib.Omega.{arith}
 use lib.Bits.{and_mask}
-use lib.Pow.{pow_pos}
 use Rattle.metric.proofs.Shifts.{one_shifted}
 use Rattle.metric.proofs.symbol_at.Goals as goal
 

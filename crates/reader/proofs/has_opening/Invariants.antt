@@ -1,15 +1,8 @@
 -- The invariant: the whole test is the test from place i on in both lists.
-use mathlib.Core.Path.{◌≡◌, refl, sym, ◌∙◌, ap}
-use mathlib.Core.Bool.{◌&&◌}
-use mathlib.Core.List.{[]}
-use Prim.Native.Nat.{◌≤◌, ◌-◌, ◌+◌}
-use native.Mathlib.Omega.{arith}
-use borrow.Author.Tests.{eq-eqb, ne_eqb}
-use lib.Dec.{eqb}
-use lib.ListN.{length, drop, get_or, drop_of_length-le}
-use borrow.Author.Rules.{rules}
-use Rattle.block.specs.Reading.{opening, starts_with}
-use Rattle.block.proofs.Openings.{four, starts_short, starts_step}
+use mathlib.Core.Path.{◌≡◌}
+use Prim.Native.Nat.{◌≤◌, ◌-◌}
+use lib.ListN.{drop}
+use Rattle.block.specs.Reading.{starts_with}
 use Rattle.reader.proofs.has_opening.Given as goal
 
 abbrev pub invariant-loop-i : goal.invariant-loop-i

@@ -1,6 +1,5 @@
 -- The definition tests for the same openings in the same order.
 use mathlib.Core.Path.{sym, ◌∙◌}
-use borrow.Author.Rules.{rules}
 use Rattle.block.specs.Reading.{layout_of}
 use Rattle.reader.proofs.layout_of.Goals as goal
 

@@ -1,5 +1,5 @@
 -- W and D are stored behind M, Q, N and C; so the vectors fit the list, and the rest is what was to be read.
-use borrow.Author.Rules.{rules, sfits_of}
+use borrow.Author.Rules.{sfits_of}
 use mathlib.Core.Path.{◌≡◌, sym, ◌∙◌}
 use Prim.Native.Nat.{◌≤◌, ◌*◌}
 use native.Mathlib.Omega.{arith}

@@ -1,10 +1,5 @@
 -- Each arm is one case of what was read; a number below the bound is taken, any other is ranged.
-use borrow.Author.Rules.{rules, sfits_of}
-use mathlib.Core.Path.{◌≡◌, sym, ap, ◌∙◌}
-use mir.Syntax.{w32}
-use mir.Facts.{to_z-of_z}
-use Rattle.wire.specs.Reading.{number_at}
-use Rattle.wire.specs.declared.Number.TheVariants.{Value}
+use mathlib.Core.Path.{sym, ap, ◌∙◌}
 use Rattle.block.specs.Reading.{by_number}
 use Rattle.reader.proofs.read_one.Goals as goal
 

@@ -1,9 +1,9 @@
 -- The invariant: the whole part into the list as it was is the runs from the i-th on into the list as it is.
-use mathlib.Core.Path.{◌≡◌, refl, sym, ◌∙◌}
-use Prim.Native.Nat.{◌≤◌, ◌<◌, ◌-◌, ◌+◌}
+use mathlib.Core.Path.{◌≡◌, sym, ◌∙◌}
+use Prim.Native.Nat.{◌≤◌, ◌<◌, ◌+◌}
 use native.Mathlib.Omega.{arith}
 use lib.ListN.{length, drop}
-use Rattle.block.specs.Reading.{kinds_of, runs_of, numbers_at, part_at, into, most_numbers}
+use Rattle.block.specs.Reading.{kinds_of, runs_of}
 use Rattle.block.proofs.Runs.{run_room, part_ended, part_refused, part_none}
 use Rattle.reader.proofs.read_part.Lts as lts
 use Rattle.reader.proofs.read_part.Reads as reads
@@ -26,8 +26,7 @@ returns-in-Refused c =
 
 pub loop-i-preserved : goal.loop-i-preserved
 loop-i-preserved c =
-    let at = c.before.before in
-    (
+    let at = c.before.before in (
       c.loop-i.invariant.0,
       omega arith,
       omega (arith, room c.before.before.before.before),

@@ -1,10 +1,8 @@
 -- The invariant: the whole part into the list as it was is the runs from the i-th on into the list as it is.
-use mathlib.Core.Path.{◌≡◌, refl, sym, ◌∙◌}
-use Prim.Native.Nat.{◌≤◌, ◌<◌, ◌-◌, ◌+◌}
-use native.Mathlib.Omega.{arith}
+use mathlib.Core.Path.{◌≡◌}
+use Prim.Native.Nat.{◌≤◌, ◌-◌, ◌+◌}
 use lib.ListN.{length, drop}
 use Rattle.block.specs.Reading.{kinds_of, runs_of, numbers_at, part_at, into, most_numbers}
-use Rattle.block.proofs.Runs.{run_room, part_ended, part_refused, part_none}
 use Rattle.reader.proofs.read_part.Given as goal
 
 abbrev pub invariant-loop-i : goal.invariant-loop-i

@@ -1,5 +1,4 @@
 -- Behind the opening of its layout M is read, and behind M what it calls for.
-use borrow.Author.Rules.{rules}
 use borrow.Author.Tests.{not-true, not-false}
 use mathlib.Core.Path.{◌≡◌, sym, ◌∙◌, ap}
 use mathlib.Core.Bool.{true}

@@ -1,14 +1,8 @@
 -- The invariant: the whole run into the list as it was is the rest of the run into the list as it is. Each turn and each exit is one law.
-use mathlib.Core.Path.{◌≡◌, sym, ◌∙◌}
+use mathlib.Core.Path.{◌≡◌}
 use Prim.Native.Nat.{◌≤◌, ◌-◌, ◌+◌}
-use native.Mathlib.Omega.{arith}
-use borrow.Author.Rules.{rules, sfits_of}
 use lib.ListN.{replicate}
-use mir.Syntax.{w32}
-use mir.Val.{SFits}
-use mir.Facts.{to_z-of_z}
 use Rattle.block.specs.Reading.{Sure, numbers_at, into}
-use Rattle.block.proofs.Reading.{run_none, run_taken, run_turned}
 use Rattle.reader.proofs.read_run.Given as goal
 
 abbrev pub invariant-loop-k : goal.invariant-loop-k

@@ -1,10 +1,10 @@
 -- The invariant: all n vectors into the list as it was are those from the k-th on into the list as it is.
-use mathlib.Core.Path.{◌≡◌, sym, ◌∙◌, ap}
-use Prim.Native.Nat.{ℕ, ◌≤◌, ◌-◌, ◌+◌, ◌*◌}
+use mathlib.Core.Path.{◌≡◌, sym, ◌∙◌}
+use Prim.Native.Nat.{◌-◌, ◌+◌, ◌*◌}
 use native.Mathlib.Omega.{arith}
-use Rattle.block.specs.Reading.{owned_size, vector_kinds, numbers_at, into, most_numbers}
+use Rattle.block.specs.Reading.{owned_size}
 use Rattle.block.proofs.Runs.{owned_numbers}
-use Rattle.block.proofs.Parts.{size_most, rest_none, rest_room, rest_ended, rest_refused}
+use Rattle.block.proofs.Parts.{rest_none, rest_room, rest_ended, rest_refused}
 use Rattle.reader.proofs.read_vectors.Lts as lts
 use Rattle.reader.proofs.read_vectors.Reads as reads
 use Rattle.reader.proofs.read_vectors.Tie as tie

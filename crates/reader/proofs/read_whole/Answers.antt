@@ -1,5 +1,4 @@
 -- Only where the record ended before the last byte is there a further refusal.
-use borrow.Author.Rules.{rules}
 use borrow.Author.Tests.{lt-ltb, le-ltb}
 use Rattle.block.proofs.Parts.{whole_ended, whole_refused}
 use Rattle.reader.proofs.read_whole.Goals as goal

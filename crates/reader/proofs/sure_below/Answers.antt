@@ -1,5 +1,4 @@
 -- In each arm the kind is known, and its bound is within twice its range; below 0 there is no number.
-use borrow.Author.Rules.{rules}
 use native.Mathlib.Omega.{arith}
 use Rattle.block.proofs.Ranges.{sure_right, sure_received, sure_prior}
 use Rattle.reader.proofs.sure_below.Goals as goal

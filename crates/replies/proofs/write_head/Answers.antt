@@ -1,7 +1,6 @@
 -- The opening, and three numbers of one group each.
 use mathlib.Core.Path.{◌≡◌, refl, ap}
 use native.Mathlib.Omega.{arith}
-use borrow.Author.Rules.{rules}
 use mathlib.Core.List.{[], ◌∷◌}
 use lib.ListN.{length}
 use Rattle.wire.specs.Writing.{bytes_of}

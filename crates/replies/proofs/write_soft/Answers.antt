@@ -1,18 +1,15 @@
 -- The invariant: of all n soft values those from the i-th on are left to write, each in at most four bytes.
-use Prim.Native.Nat.{◌≤◌, ◌-◌, ◌+◌, ◌*◌}
-use mathlib.Core.Path.{◌≡◌, refl, ◌∙◌, ap}
-use mathlib.Core.List.{map}
+use mathlib.Core.Path.{◌≡◌, ◌∙◌, ap}
 use native.Mathlib.Omega.{arith}
-use borrow.Author.Rules.{rules, sfits_of}
+use borrow.Author.Rules.{sfits_of}
 use lib.IntN.{pos}
-use lib.ListN.{length, get_or, take}
+use lib.ListN.{length, get_or}
 use mir.Syntax.{w32}
 use mir.Val.{SFits}
 use mir.Facts.{to_z-of_z}
 use Rattle.wire.specs.Folding.{folded}
 use Rattle.wire.proofs.Writing.{bytes_of-most, put_length}
-use Rattle.replies.specs.Reply.{written}
-use Rattle.replies.proofs.Steps.{Left, left_all, soft_from, left_soft, soft_all}
+use Rattle.replies.proofs.Steps.{left_soft, soft_all}
 use Rattle.replies.proofs.write_soft.Lts as lts
 use Rattle.replies.proofs.write_soft.Reads as reads
 use Rattle.replies.proofs.write_soft.Tie as tie

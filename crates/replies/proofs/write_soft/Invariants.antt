@@ -1,18 +1,11 @@
 -- The invariant: of all n soft values those from the i-th on are left to write, each in at most four bytes.
 use Prim.Native.Nat.{◌≤◌, ◌-◌, ◌+◌, ◌*◌}
-use mathlib.Core.Path.{◌≡◌, refl, ◌∙◌, ap}
+use mathlib.Core.Path.{◌≡◌}
 use mathlib.Core.List.{map}
-use native.Mathlib.Omega.{arith}
-use borrow.Author.Rules.{rules, sfits_of}
-use lib.IntN.{pos}
-use lib.ListN.{length, get_or, take}
-use mir.Syntax.{w32}
-use mir.Val.{SFits}
-use mir.Facts.{to_z-of_z}
+use lib.ListN.{length, take}
 use Rattle.wire.specs.Folding.{folded}
-use Rattle.wire.proofs.Writing.{bytes_of-most, put_length}
 use Rattle.replies.specs.Reply.{written}
-use Rattle.replies.proofs.Steps.{Left, left_all, soft_from, left_soft, soft_all}
+use Rattle.replies.proofs.Steps.{Left, soft_from}
 use Rattle.replies.proofs.write_soft.Given as goal
 
 abbrev pub invariant-loop-i : goal.invariant-loop-i

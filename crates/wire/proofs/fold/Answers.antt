@@ -2,15 +2,14 @@
 use Prim.Native.Nat.{◌+◌, ◌*◌}
 use mathlib.Core.Path.{◌≡◌}
 use mathlib.Core.Bool.{true, false}
-use native.Mathlib.Omega.{arith}
 use lib.IntN.{pos, negsuc, nat_abs, ◌-ℤ◌}
 use lib.Signed.{lt_z}
 use mir.Syntax.{w32}
 use mir.Val.{SFits}
-use mir.Facts.{to_z-of_z, Fits-nat_abs}
-use Rattle.integers.proofs.Fits.{complement-non_neg, complement_fits, non_neg-of}
+use mir.Facts.{to_z-of_z}
+use Rattle.integers.proofs.Fits.{complement_fits}
 use Rattle.wire.specs.Folding.{folded}
-use Rattle.wire.proofs.Folding.{folded_negative, folded_other, folded_below}
+use Rattle.wire.proofs.Folding.{folded_negative, folded_other}
 use Rattle.wire.proofs.fold.Lts as lts
 use Rattle.wire.proofs.fold.Reads as reads
 use Rattle.wire.proofs.fold.Goals as goal

@@ -1,15 +1,13 @@
 -- `wire::read_groups` meets its contract. The invariant: the digits read are below 2 to the 7k, and the number at the start is what the
 -- reader still finds at the present place, above those digits. The measure is the groups that are left of four.
-use Prim.Native.Nat.{ℕ, ◌≤◌, ◌<◌, ◌-◌, ◌+◌, ◌*◌, ◌%◌, ◌^◌}
+use Prim.Native.Nat.{ℕ, ◌<◌, ◌+◌, ◌*◌, ◌%◌, ◌^◌}
 use mathlib.Core.Path.{◌≡◌, sym, ap, ◌∙◌, subst}
 use mathlib.Core.Logic.{⊎_elim}
 use native.Mathlib.Omega.{arith}
-use borrow.Author.Tests.{ltb-true, ltb-false, eqb-false}
+use borrow.Author.Tests.{ltb-true, eqb-false}
 use lib.Bits.{bit_and, bit_or}
 use lib.ListN.{get_or}
-use mir.Facts.{Fits-mask}
 use Rattle.wire.specs.declared.Number.TheVariants.{Value}
-use Rattle.wire.specs.Reading.{number_at}
 use Rattle.wire.proofs.Reading.{state, state_start, state_malformed, state_short, state_more, state_zero, state_value}
 use Rattle.wire.proofs.Reading.{digits_set, digits_below}
 use Rattle.wire.proofs.RoundTrip.{answered}

@@ -1,5 +1,4 @@
 -- `wire::read_number` meets its contract: a first byte without the high bit is the number by one law, and all others are read by the loop.
-use borrow.Author.Rules.{rules}
 use mathlib.Core.Path.{sym}
 use native.Mathlib.Omega.{arith}
 use Rattle.wire.proofs.Reading.{number_of_one}

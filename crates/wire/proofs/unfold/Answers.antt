@@ -1,7 +1,6 @@
 -- `wire::unfold` meets its contract: half of a number below 2 ^ 32 is below 2 ^ 31, so it and -1 less it fit.
 use Prim.Native.Nat.{◌<◌, ◌/◌, ◌^◌}
 use native.Mathlib.Omega.{arith}
-use borrow.Author.Rules.{rules}
 use borrow.Author.Tests.{eq-eqb, ne_eqb}
 use lib.IntN.{negsuc}
 use mir.Syntax.{w32}

@@ -1,12 +1,9 @@
 -- `wire::write_number` meets its contract. The invariant: n's groups put at the start are the groups of what is left put at the present
 -- place, and at most three follow the present one. So the room that was asked for holds one more group. The measure is what is left.
 use Prim.Native.Nat.{suc, ◌≤◌, ◌<◌, ◌-◌, ◌+◌, ◌*◌, ◌^◌}
-use mathlib.Core.Path.{◌≡◌, refl, sym, ◌∙◌}
-use native.Mathlib.Omega.{arith}
-use lib.ListN.{length, length-set}
-use mir.Facts.{Fits-or, Fits-mask, Fits-lit}
+use mathlib.Core.Path.{◌≡◌}
+use lib.ListN.{length}
 use Rattle.wire.specs.Writing.{groups_of, bytes_of, put}
-use Rattle.wire.proofs.Writing.{groups_of-some, left_below, left_room, turn_ends, turn_leaves, last_ends, last_leaves}
 use Rattle.wire.proofs.write_number.Given as goal
 
 abbrev pub invariant-loop-rest : goal.invariant-loop-rest

@@ -1,8 +1,6 @@
 -- Four bytes set one after the other are the opening put at the start.
 use native.Mathlib.Omega.{arith}
 use mathlib.Core.Path.{sym}
-use borrow.Author.Rules.{rules}
-use lib.ListN.{length-set}
 use Rattle.wire.proofs.Writing.{put_four}
 use Rattle.wire.proofs.write_opening.Goals as goal
 

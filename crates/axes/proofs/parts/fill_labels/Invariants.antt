@@ -1,18 +1,8 @@
 -- The invariant: the first g places are filled. What remains is its bits inside the loop.
-use borrow.Author.Rules.{sfits_of}
-use mathlib.Core.Path.{◌≡◌, refl}
-use Prim.Native.Nat.{◌≤◌, ◌<◌, ◌-◌, ◌+◌, ◌*◌, ◌^◌}
-use native.Mathlib.Omega.{arith}
-use lib.Pow.{pow_mono}
-use lib.IntN.{pos}
-use lib.ListN.{get_or}
-use mir.Syntax.{w32, w64}
-use mir.Val.{SFits, to_z, of_z}
-use mir.Facts.{to_z-of_z}
-use Rattle.metric.specs.Parts.{axis_width, span, filled_from}
-use Rattle.axes.specs.Tables.{table_size, table_part, key_part}
-use Rattle.metric.proofs.Filled.{from_more}
-use Rattle.metric.proofs.Shifts.{one_shifted}
+use mathlib.Core.Path.{◌≡◌}
+use Prim.Native.Nat.{◌≤◌, ◌-◌, ◌^◌}
+use Rattle.metric.specs.Parts.{filled_from}
+use Rattle.axes.specs.Tables.{key_part}
 use Rattle.axes.proofs.parts.fill_labels.Given as goal
 
 abbrev pub invariant-loop-g : goal.invariant-loop-g

@@ -1,14 +1,13 @@
 -- A part is below 2^41 by far, so times 2^23 it fits 64 bits, with the cost behind it.
-use mathlib.Core.Path.{◌≡◌, ap, sym, subst}
+use mathlib.Core.Path.{◌≡◌, ap}
 use Prim.Native.Nat.{◌+◌, ◌*◌, ◌≤◌, ◌^◌}
 use native.Mathlib.Omega.{arith}
 use native.Mathlib.Nat.{mul-le-mul}
-use lib.Dec.{T}
-use lib.IntN.{ℤ, nat_abs, ◌-ℤ◌}
-use lib.Signed.{non_neg, nat_abs-le}
+use lib.IntN.{nat_abs, ◌-ℤ◌}
+use lib.Signed.{nat_abs-le}
 use mir.Syntax.{w32}
 use mir.Val.{to_z, of_z}
-use mir.Facts.{to_z-of_z, Fits-nat_abs}
+use mir.Facts.{to_z-of_z}
 use Rattle.integers.proofs.Magnitudes.{nat_abs-sub}
 use Rattle.metric.specs.Parts.{remainder_bound}
 use Rattle.axes.proofs.parts.key_part.Lts as lts

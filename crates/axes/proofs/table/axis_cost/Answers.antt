@@ -1,8 +1,8 @@
 -- The sum so far and the cost of the bits from i on are the whole cost.
-use borrow.Author.Rules.{rules, sfits_of}
+use borrow.Author.Rules.{sfits_of}
 use mathlib.Core.Path.{◌≡◌, ap, ◌∙◌}
 use mathlib.Core.Bool.{Bool}
-use Prim.Native.Nat.{◌+◌, ◌-◌, ◌*◌, ◌≤◌, ◌^◌}
+use Prim.Native.Nat.{◌+◌, ◌≤◌, ◌^◌}
 use native.Mathlib.Omega.{arith}
 use lib.IntN.{ℤ, nat_abs, pos}
 use lib.ListN.{get_or}
@@ -11,8 +11,8 @@ use mir.Syntax.{w32, w64}
 use mir.Val.{SFits}
 use mir.Facts.{to_z-of_z, sfits_widen}
 use Rattle.model.specs.Metric.{bit_cost}
-use Rattle.metric.specs.Parts.{part, bit_of, axis_cost}
-use Rattle.axes.proofs.Costs.{cost_from, cost_most, cost_more, cost_none, cost_all}
+use Rattle.metric.specs.Parts.{bit_of}
+use Rattle.axes.proofs.Costs.{cost_most, cost_more, cost_none, cost_all}
 use Rattle.axes.proofs.table.axis_cost.Lts as lts
 use Rattle.axes.proofs.table.axis_cost.Reads as reads
 use Rattle.axes.proofs.table.axis_cost.Tie as tie

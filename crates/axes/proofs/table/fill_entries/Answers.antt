@@ -1,6 +1,5 @@
 -- The products, then the costs.
 use mathlib.Core.Path.{ap, ◌∙◌}
-use native.Mathlib.Omega.{arith}
 use mir.Facts.{to_z-of_z}
 use Rattle.metric.specs.Parts.{filled_from}
 use Rattle.axes.specs.Tables.{entries_in}

@@ -1,5 +1,4 @@
 -- The first run is the owner's, every other one the vector's.
-use borrow.Author.Rules.{rules}
 use mathlib.Core.Path.{sym, ◌∙◌}
 use Rattle.block.proofs.Runs.{run_owner, run_later}
 use Rattle.block.proofs.order.owned_run.Goals as goal

@@ -1,11 +1,7 @@
 -- In each arm the part is known, and what is called there gives its run.
-use borrow.Author.Rules.{rules, sfits_of}
 use mathlib.Core.Path.{◌≡◌}
 use Prim.Native.Nat.{◌<◌}
 use native.Mathlib.Omega.{arith}
-use mir.Syntax.{w32}
-use mir.Val.{SFits}
-use mir.Facts.{to_z-of_z}
 use Rattle.block.specs.Reading.{runs_of}
 use Rattle.block.proofs.Runs.{vector_runs_lem}
 use Rattle.block.proofs.order.run_at.Goals as goal

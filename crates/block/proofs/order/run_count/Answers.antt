@@ -1,9 +1,5 @@
 -- In each arm the part is known, and so is its list of runs.
-use borrow.Author.Rules.{rules}
 use mathlib.Core.Path.{sym}
-use Prim.Native.Nat.{◌≤◌}
-use native.Mathlib.Omega.{arith}
-use Rattle.model.specs.Block.{most_streams}
 use Rattle.block.specs.Reading.{runs_of}
 use Rattle.block.proofs.Runs.{vector_runs_lem}
 use Rattle.block.proofs.order.run_count.Goals as goal

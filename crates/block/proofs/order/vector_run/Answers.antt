@@ -1,5 +1,4 @@
 -- Each exit is a place of the list of runs; m, q and the label's bits are small, so nothing wraps.
-use borrow.Author.Rules.{rules}
 use mathlib.Core.Path.{sym}
 use native.Mathlib.Omega.{arith}
 use Rattle.block.proofs.Runs.{run_diagonal, run_right, run_received, run_prior}

@@ -1,6 +1,5 @@
 -- The invariant: the parts of the first g labels are copied.
-use mathlib.Core.Path.{◌≡◌, refl}
-use Prim.Native.Nat.{◌-◌, ◌≤◌, ◌<◌}
+use mathlib.Core.Path.{refl}
 use native.Mathlib.Omega.{arith}
 use Rattle.metric.specs.Parts.{span, imaginary_in, filled_from}
 use Rattle.metric.proofs.Filled.{from_more}

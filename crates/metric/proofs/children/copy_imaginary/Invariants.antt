@@ -1,9 +1,7 @@
 -- The invariant: the parts of the first g labels are copied.
-use mathlib.Core.Path.{◌≡◌, refl}
-use Prim.Native.Nat.{◌-◌, ◌≤◌, ◌<◌}
-use native.Mathlib.Omega.{arith}
+use mathlib.Core.Path.{◌≡◌}
+use Prim.Native.Nat.{◌-◌, ◌≤◌}
 use Rattle.metric.specs.Parts.{span, imaginary_in, filled_from}
-use Rattle.metric.proofs.Filled.{from_more}
 use Rattle.metric.proofs.children.copy_imaginary.Given as goal
 
 abbrev pub invariant-loop-g : goal.invariant-loop-g

@@ -2,7 +2,6 @@
 use Prim.Native.Nat.{◌*◌, ◌%◌, ◌^◌}
 use mathlib.Core.Path.{◌≡◌}
 use native.Mathlib.Omega.{arith}
-use borrow.Author.Rules.{rules}
 use Rattle.metric.proofs.Shifts.{one_shifted}
 use Rattle.metric.proofs.children.fill_children.Lts as lts
 use Rattle.metric.proofs.children.fill_children.Reads as reads

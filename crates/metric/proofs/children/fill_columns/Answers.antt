@@ -1,11 +1,8 @@
 -- The invariant: the first b places of the row are filled.
-use borrow.Author.Rules.{rules}
-use mathlib.Core.Path.{◌≡◌, refl, ap, ◌∙◌}
-use Prim.Native.Nat.{◌+◌, ◌-◌, ◌≤◌, ◌<◌}
+use mathlib.Core.Path.{refl}
 use native.Mathlib.Omega.{arith}
-use lib.ListN.{length}
-use Rattle.metric.specs.Parts.{span, row_metric, filled_from}
-use Rattle.metric.proofs.Filled.{from_more, from_length}
+use Rattle.metric.specs.Parts.{row_metric, filled_from}
+use Rattle.metric.proofs.Filled.{from_more}
 use Rattle.metric.proofs.children.fill_columns.Goals as goal
 
 pub loop-b-init : goal.loop-b-init

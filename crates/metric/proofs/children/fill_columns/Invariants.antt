@@ -1,11 +1,7 @@
 -- The invariant: the first b places of the row are filled.
-use borrow.Author.Rules.{rules}
-use mathlib.Core.Path.{◌≡◌, refl, ap, ◌∙◌}
-use Prim.Native.Nat.{◌+◌, ◌-◌, ◌≤◌, ◌<◌}
-use native.Mathlib.Omega.{arith}
-use lib.ListN.{length}
-use Rattle.metric.specs.Parts.{span, row_metric, filled_from}
-use Rattle.metric.proofs.Filled.{from_more, from_length}
+use mathlib.Core.Path.{◌≡◌}
+use Prim.Native.Nat.{◌-◌, ◌≤◌}
+use Rattle.metric.specs.Parts.{row_metric, filled_from}
 use Rattle.metric.proofs.children.fill_columns.Given as goal
 
 abbrev pub invariant-loop-b : goal.invariant-loop-b

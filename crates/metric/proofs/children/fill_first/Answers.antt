@@ -7,7 +7,6 @@ use native.Mathlib.Omega.{arith}
 use lib.ListN.{length}
 use lib.Pow.{pow_mono, pow_pos}
 use Rattle.metric.specs.Parts.{axis_width, span, real_in, row_metric, measured_to, filled_from}
-use Rattle.metric.proofs.Filled.{from_length}
 use Rattle.metric.proofs.Grid.{rows_all, row_reached}
 use Rattle.metric.proofs.Parted.{pass_parted}
 use Rattle.metric.proofs.Pass.{pass_length}
@@ -69,13 +68,12 @@ bounds-axes-rows c =
     omega (arith, few_rows c.before.before.before.before.before.before.before)
 
 pub fill_columns-requires : goal.fill_columns-requires
-fill_columns-requires c =
-    (
-      omega (arith, c.requires.1, c.requires.2 (rows c.before.before.before.before.before.before.before.before.before)),
-      c.requires.2,
-      few_columns c.before.before.before.before.before.before.before.before.before,
-      omega (arith, both c.before.before.before.before.before.before.before.before.before, c.requires.3, c.requires.4, ap length c.fill_rows.ensures ∙ pass_length _ _ _ _ _),
-    )
+fill_columns-requires c = (
+  omega (arith, c.requires.1, c.requires.2 (rows c.before.before.before.before.before.before.before.before.before)),
+  c.requires.2,
+  few_columns c.before.before.before.before.before.before.before.before.before,
+  omega (arith, both c.before.before.before.before.before.before.before.before.before, c.requires.3, c.requires.4, ap length c.fill_rows.ensures ∙ pass_length _ _ _ _ _),
+)
 
 pub returns : goal.returns
 returns c =

@@ -6,7 +6,7 @@ use native.Mathlib.Nat.{zero-mul}
 use native.Mathlib.Omega.{arith}
 use lib.ListN.{length, replicate}
 use lib.Pow.{pow_mono}
-use Rattle.metric.specs.Parts.{axis_width, span, imaginary_in, row_metric, measured_to, filled_from, AllSmall}
+use Rattle.metric.specs.Parts.{axis_width, span, imaginary_in, row_metric, filled_from, AllSmall}
 use Rattle.metric.proofs.Filled.{from_at, from_same, from_all, zeros_small}
 use Rattle.metric.proofs.Grid.{row_room, row_more}
 use Rattle.metric.proofs.Pass.{pass_none, pass_length}
@@ -73,13 +73,12 @@ room : (c : lts.In-loop tie.the-claims reads.Pre reads.Post goal.the-invariant-l
 room c = rw c.loop-a.invariant.1 (row_room c.args.q c.loop-a.a (below c))
 
 pub fill_columns-requires : goal.fill_columns-requires
-fill_columns-requires c =
-    (
-      omega (arith, c.requires.1, c.requires.2 c.loop-a.a),
-      copied_small c.before.before.before.before.before.before.before,
-      few_copied c.before.before.before.before.before.before.before.before.before,
-      omega (arith, c.loop-a.invariant.1, room c.before.before.before.before.before, same_length c.before.before.before.before.before.before, c.requires.3),
-    )
+fill_columns-requires c = (
+  omega (arith, c.requires.1, c.requires.2 c.loop-a.a),
+  copied_small c.before.before.before.before.before.before.before,
+  few_copied c.before.before.before.before.before.before.before.before.before,
+  omega (arith, c.loop-a.invariant.1, room c.before.before.before.before.before, same_length c.before.before.before.before.before.before, c.requires.3),
+)
 
 pub loop-a-preserved : goal.loop-a-preserved
 loop-a-preserved c =

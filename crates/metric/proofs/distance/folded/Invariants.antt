@@ -1,16 +1,8 @@
 -- The invariant: folding the distance k times more gives the nearest one. It stays in its range, for the middles are in it too.
-use mathlib.Core.Path.{◌≡◌, ◌∙◌, ap}
-use Prim.Native.Nat.{◌-◌, ◌*◌, ◌≤◌, ◌<◌, ◌^◌}
-use native.Mathlib.Nat.{mul-le-mul}
-use native.Mathlib.Omega.{arith}
-use lib.Pow.{pow_mono, shl_exact}
+use mathlib.Core.Path.{◌≡◌}
+use Prim.Native.Nat.{◌≤◌, ◌<◌}
 use lib.IntN.{nat_abs}
-use mir.Syntax.{w64}
-use mir.Val.{to_z}
-use mir.Facts.{to_z-of_z}
-use Rattle.model.specs.Block.{most_entry}
-use Rattle.metric.specs.Parts.{remainder_bound, axis_width, span, apart, nearest_of}
-use Rattle.metric.proofs.Folds.{fold_more, fold_none}
+use Rattle.metric.specs.Parts.{remainder_bound, axis_width, nearest_of}
 use Rattle.metric.proofs.distance.folded.Given as goal
 
 abbrev pub invariant-loop-k : goal.invariant-loop-k

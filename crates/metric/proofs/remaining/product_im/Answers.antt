@@ -1,7 +1,7 @@
 -- The sum of two products.
 use lib.IntN.{◌+ℤ◌}
 use Rattle.integers.proofs.Magnitudes.{nat_abs-add}
-use Rattle.metric.proofs.Products.{exchanged, first, second, joined, joined_is}
+use Rattle.metric.proofs.Products.{exchanged, joined, joined_is}
 use Rattle.metric.proofs.remaining.product_im.Goals as goal
 
 pub returns : goal.returns

@@ -1,7 +1,7 @@
 -- The difference of two products.
 use lib.IntN.{◌-ℤ◌}
 use Rattle.integers.proofs.Magnitudes.{nat_abs-sub}
-use Rattle.metric.proofs.Products.{first, second, joined, joined_is}
+use Rattle.metric.proofs.Products.{joined, joined_is}
 use Rattle.metric.proofs.remaining.product_re.Goals as goal
 
 pub returns : goal.returns

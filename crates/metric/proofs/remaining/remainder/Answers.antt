@@ -2,8 +2,8 @@
 -- most the largest term to the magnitude of a part.
 use borrow.Author.Rules.{sfits_of}
 use mathlib.Core.Path.{◌≡◌, ap, sym, subst, ◌∙◌}
-use Prim.Native.Nat.{ℕ, ◌+◌, ◌-◌, ◌*◌, ◌≤◌, ◌<◌, ◌^◌}
-use native.Mathlib.Nat.{mod-lt, mul-le-mul}
+use Prim.Native.Nat.{ℕ, ◌+◌, ◌*◌, ◌≤◌, ◌<◌, ◌^◌}
+use native.Mathlib.Nat.{mod-lt}
 use native.Mathlib.Omega.{arith}
 use lib.IntN.{nat_abs}
 use lib.Pow.{pow_pos}
@@ -12,13 +12,12 @@ use mir.Val.{SFits, to_z}
 use mir.Facts.{to_z-of_z}
 use Rattle.integers.proofs.Fits.{sfits_abs}
 use Rattle.integers.proofs.Magnitudes.{nat_abs-sub}
-use Rattle.model.specs.Constellation.{Complex, ◌⊖◌, ◌⊗◌, point, bits_of}
-use Rattle.model.specs.Block.{most_width, most_received}
+use Rattle.model.specs.Constellation.{Complex, ◌⊗◌, point, bits_of}
 use Rattle.constellation.specs.Points.{complex_of}
 use Rattle.block.specs.Contents.{complex_at}
 use Rattle.metric.specs.Rows.{row_start}
-use Rattle.metric.proofs.Rows.{row_end, square_few, received_within}
-use Rattle.metric.proofs.Remainders.{remains, rest_of, rest_start, rest_turn, rest_done, most_term, term_few, term_asked}
+use Rattle.metric.proofs.Rows.{received_within}
+use Rattle.metric.proofs.Remainders.{rest_start, rest_turn, rest_done, most_term, term_few, term_asked}
 use Rattle.metric.proofs.remaining.remainder.Lts as lts
 use Rattle.metric.proofs.remaining.remainder.Reads as reads
 use Rattle.metric.proofs.remaining.remainder.Tie as tie

@@ -1,24 +1,12 @@
 -- The invariant: what is left so far, less the entries from t on times their points, is what remains in the end; and each turn adds at
 -- most the largest term to the magnitude of a part.
-use borrow.Author.Rules.{sfits_of}
-use mathlib.Core.Path.{◌≡◌, ap, sym, subst, ◌∙◌}
-use Prim.Native.Nat.{ℕ, ◌+◌, ◌-◌, ◌*◌, ◌≤◌, ◌<◌, ◌^◌}
-use native.Mathlib.Nat.{mod-lt, mul-le-mul}
-use native.Mathlib.Omega.{arith}
+use mathlib.Core.Path.{◌≡◌}
+use Prim.Native.Nat.{◌+◌, ◌-◌, ◌*◌, ◌≤◌}
 use lib.IntN.{nat_abs}
-use lib.Pow.{pow_pos}
-use mir.Syntax.{w64}
-use mir.Val.{SFits, to_z}
-use mir.Facts.{to_z-of_z}
-use Rattle.integers.proofs.Fits.{sfits_abs}
-use Rattle.integers.proofs.Magnitudes.{nat_abs-sub}
-use Rattle.model.specs.Constellation.{Complex, ◌⊖◌, ◌⊗◌, point, bits_of}
-use Rattle.model.specs.Block.{most_width, most_received}
+use Rattle.model.specs.Constellation.{◌⊖◌}
+use Rattle.model.specs.Block.{most_received}
 use Rattle.constellation.specs.Points.{complex_of}
-use Rattle.block.specs.Contents.{complex_at}
-use Rattle.metric.specs.Rows.{row_start}
-use Rattle.metric.proofs.Rows.{row_end, square_few, received_within}
-use Rattle.metric.proofs.Remainders.{remains, rest_of, rest_start, rest_turn, rest_done, most_term, term_few, term_asked}
+use Rattle.metric.proofs.Remainders.{remains, rest_of, most_term}
 use Rattle.metric.proofs.remaining.remainder.Given as goal
 
 -- Signed locals of a loop are their bits
