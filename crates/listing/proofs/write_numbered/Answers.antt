@@ -1,8 +1,7 @@
 -- The parts that are handed on are vector k's soft values and priors.
-use Rattle.std.proofs.Common.{◌*◌, ◌≤◌, ◌<◌, refl, arith}
-use Rattle.block.specs.Reading.{most_numbers}
-use Rattle.detector.proofs.Held.{few_streams, few_bits, few_vectors, few_soft, inside, after_length, found_within}
-use Rattle.listing.proofs.Numbered.{end_small, bits_less, line_asked, sum_small, numbered}
+use Rattle.std.proofs.Common.{refl, arith}
+use Rattle.detector.proofs.Held.{few_streams, few_bits, few_vectors, inside, after_length, found_within}
+use Rattle.listing.proofs.Numbered.{end_small, line_asked, sum_small, numbered}
 use Rattle.listing.proofs.write_numbered.Goals as goal
 
 pub search_one-found-requires : goal.search_one-found-requires

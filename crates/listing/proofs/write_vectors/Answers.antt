@@ -1,5 +1,5 @@
 -- Each vector's turn is one more of the lines.
-use Rattle.std.proofs.Common.{ℕ, List, ℤ, ◌+◌, ◌<◌, ◌^◌, ◌≡◌, ◌∙◌, refl, sym, arith, get_or, length}
+use Rattle.std.proofs.Common.{ℕ, List, ℤ, ◌≡◌, ◌∙◌, refl, arith}
 use Rattle.model.proofs.Bounds.{total_small}
 use Rattle.block.specs.declared.Layout.{Layout}
 use Rattle.constellation.proofs.Tables.{points_of}
