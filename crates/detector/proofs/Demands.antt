@@ -200,7 +200,7 @@ demand1_number bytes room r = (λ e. (demand1 bytes room r).0 (go (outcome bytes
     go (refused s) e = ap refused (number_tells s r e)
     go (filled reply) e = absurd (omega (arith, ap length (ap told_by e ∙ told r)))
 
--- ONE THEOREM: whatever the record and the buffer, what the contract of the exported function promises of the returned number and of the
+-- ONE THEOREM: whatever the record and the buffer, what the contract of the call promises of the returned number and of the
 -- buffer afterwards meets the user's demands
 pub demands : (bytes buffer : List ℕ) (number : ℤ) (after : List ℕ) → number ≡ returned (outcome bytes (length buffer))
     → after ≡ buffer_after (outcome bytes (length buffer)) buffer → Met bytes buffer number after

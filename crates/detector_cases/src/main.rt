@@ -1,4 +1,4 @@
-// Runs the detector's exported entry on the test cases of standard input, from bytes to bytes. A test case is two items as crate cases
+// Runs the detector's call on the test cases of standard input, from bytes to bytes. A test case is two items as crate cases
 // frames them: the record, then two bytes, the low one first, with the length of the reply buffer, at most 128. The buffer is filled with
 // AA before each call. For each a line is written: the returned number, and every byte of the lent buffer afterwards in hexadecimal.
 //

@@ -66,19 +66,19 @@ module _ (v : Vector) (m : ℕ) (em : m ≡ length v.rows) (label best : ℕ) (m
 
 -- All limits are made
 module _ (v : Vector) (m : ℕ) (few : m * v.width ≤ most_bits) (label best : ℕ) (old mid : List ℕ) (whole : length old ≡ minima_size)
-    (Filled-in : mid ≡ take (2 * most_bits) old ++ filled (limit_at v (taken_in label best old)) (m * v.width) (limits_of old)) where
+    (filled_in : mid ≡ take (2 * most_bits) old ++ filled (limit_at v (taken_in label best old)) (m * v.width) (limits_of old)) where
   abbrev limits : List ℕ
   limits = filled (limit_at v (taken_in label best old)) (m * v.width) (limits_of old)
 
   pub made_whole : length mid ≡ minima_size
   made_whole =
-      ap length Filled-in ∙ limits_whole old (omega arith) limits (filled_length _ _ (limits_of old) ∙ limits_length old) ∙ whole
+      ap length filled_in ∙ limits_whole old (omega arith) limits (filled_length _ _ (limits_of old) ∙ limits_length old) ∙ whole
 
   pub made_kept : taken_in label best mid ≡ taken_in label best old
-  made_kept = ap (taken_in label best) Filled-in ∙ taken_kept old (omega arith) limits label best
+  made_kept = ap (taken_in label best) filled_in ∙ taken_kept old (omega arith) limits label best
 
   pub made_limits : limits_of mid ≡ limits
-  made_limits = ap limits_of Filled-in ∙ limits_are old (omega arith) limits
+  made_limits = ap limits_of filled_in ∙ limits_are old (omega arith) limits
 
   pub made_right : (i : ℕ) → i < m * v.width → limit_in (limits_of mid) i ≡ limit_at v (taken_in label best mid) i
   made_right i h =
