@@ -1,15 +1,16 @@
 // The listing program: a block record comes in by standard input, its listing goes out by standard
 // output. The work is done over any reader and any writer, whose bytes a contract can name. Proved
 // is that no more bytes are counted as read than the buffer has, that they are those that the
-// reader gave, and that what a writer took, where it took all, is the listing of these. That
-// standard input and output are such a reader and writer is not proved: the program is run, and
-// held to stored outputs.
+// reader gave, and that what a writer took is the listing of these, or a front of it where it failed.
+// That standard input and output are such a reader and writer is not proved: the program is run,
+// and held to stored outputs.
 #![tactic(auto)]
 
-ghost use Rattle.std.specs.Prelude.{◌≡◌, OnOk};
+ghost use Rattle.std.specs.Prelude.{◌≡◌, OnOk, OnErr};
 ghost use Rattle.std.specs.Io.KnownBytes.{Appends};
 ghost use Rattle.lines.specs.Text.{listing_of};
 ghost use Rattle.list.specs.Input.{Within, HasRead};
+ghost use Rattle.list.specs.Output.{HasTaken};
 
 use std::io;
 use std::io::{Read, Write};
@@ -45,17 +46,28 @@ fn complain<W: Write>(errors: &mut W, text: &[u8]) {
     let _ = errors.write_all(text);
 }
 
-// Hands a record's listing to a writer. The record is there for the contract alone.
+// Hands a record's listing to a writer, which has taken a front of it where it fails. The record is
+// there for the contract alone.
 fn write<W: Write>(output: &mut W, record: &[u8], text: &[u8]) -> io::Result<()>
     requires { text.now ≡ listing_of «record».now }
-    ensures { OnOk result (Appends (W.contents output.old) (W.contents output.new) (listing_of «record».now)) }
+    ensures ok { OnOk result (Appends (W.contents output.old) (W.contents output.new) (listing_of «record».now)) }
+    ensures err { OnErr result (HasTaken (W.contents output.old) (W.contents output.new) (listing_of «record».now)) }
 {
-    output.write_all(text)
+    let mut taken = 0;
+    while taken < text.len() {
+        match output.write(&text[taken..]) {
+            Ok(0) => return Err(io::Error::from(io::ErrorKind::WriteZero)),
+            Ok(more) => taken += more,
+            Err(error) => return Err(error),
+        }
+    }
+    Ok(())
 }
 
 // Prints the listing of a record.
 fn print<W: Write>(output: &mut W, record: &[u8]) -> io::Result<()>
-    ensures { OnOk result (Appends (W.contents output.old) (W.contents output.new) (listing_of «record».now)) }
+    ensures ok { OnOk result (Appends (W.contents output.old) (W.contents output.new) (listing_of «record».now)) }
+    ensures err { OnErr result (HasTaken (W.contents output.old) (W.contents output.new) (listing_of «record».now)) }
 {
     let mut text = [0u8; listing::MOST_TEXT];
     let n = listing::list(record, &mut text);
