@@ -15,7 +15,7 @@ use Rattle.search_spec.specs.Program.{most_children, above, Ranged}
 use Rattle.search_spec.proofs.Answer.{few_children}
 use Rattle.search_spec.proofs.Bounds.{chosen_by_lem, partial_under as kid_Under, partial_low}
 use Rattle.enumeration.specs.Rows.{key_count}
-use Rattle.hypotheses.specs.Limits.{vector_at}
+use Rattle.hypotheses.specs.Limits.{vector_at, SearchAsked}
 use Rattle.expansion.specs.Expand.{NodeIn, kid_of}
 use Rattle.tree.specs.declared.Node.{Node}
 use Rattle.expansion.proofs.Rows.{ranged, partial_by}
@@ -32,8 +32,8 @@ keys_rise {q} {w} h = let half : q - q / 2 ≤ w - w / 2 = omega arith in omega 
 pub room_for : (level q : ℕ) → 0 < level → (places : ℕ) → level * key_count q ≤ places → key_count q ≤ places
 room_for level q some places h = omega (arith, mul-le-mul some (le_refl (key_count q)))
 
--- A node of a vector
-module _ {m q clip : ℕ} {numbers : List ℤ} {n : Node} (w : NodeIn m q clip numbers n) where
+-- A node of a vector that a search may be asked for
+module _ {m q clip : ℕ} {numbers : List ℤ} (a : SearchAsked m q clip numbers) {n : Node} (w : NodeIn m q clip numbers n) where
   abbrev v : Vector
   v = vector_at m q clip numbers
 
@@ -41,7 +41,7 @@ module _ {m q clip : ℕ} {numbers : List ℤ} {n : Node} (w : NodeIn m q clip n
   streams = rows_count m q numbers
 
   pub in_range : Ranged v
-  in_range = ranged m q clip numbers w.asked
+  in_range = ranged m q clip numbers a
 
   pub within : n.level ≤ length v.rows
   within = omega (arith, streams, w.inside)
@@ -57,7 +57,7 @@ module _ {m q clip : ℕ} {numbers : List ℤ} {n : Node} (w : NodeIn m q clip n
   partial_few = le_of_lt partial_under
 
   pub chosen_few : (m - n.level) * q ≤ most_bits
-  chosen_few = rest_few n.level w.asked.vector
+  chosen_few = rest_few n.level a.vector
 
   pub node_placed : n.bits < 2 ^ ((m - n.level) * q)
   node_placed = subst (λ (x : ℕ). n.bits < 2 ^ x) (chosen_by_lem v m n.level (sym streams)) w.placed
@@ -79,5 +79,5 @@ module _ {m q clip : ℕ} {numbers : List ℤ} {n : Node} (w : NodeIn m q clip n
     -- No child's partial metric is above the sentinel
     pub kid_low : (s : ℕ) → kid_of m q numbers n s ≤ above
     kid_low s =
-        rw (partial_by m q numbers w.asked.vector clip (n.level - 1) n.bits n.partial s row_inside)
+        rw (partial_by m q numbers a.vector clip (n.level - 1) n.bits n.partial s row_inside)
         (le_of_lt (kid_Under v n.level some within in_range n.partial w.bounded n.bits s))

@@ -1,11 +1,11 @@
 -- A node's children before the first of them is tried: all would be cut, or their keys are filled in.
 use Rattle.std.specs.Prelude.{ℕ, suc, ◌+◌, ◌-◌, ◌*◌, ◌≤◌, ◌<◌, ◌^◌, max, ◌≡◌, Bool, true, false, not, ◌&&◌, ◌||◌, cond, List, ℤ, nat_abs, eqb, length, get_or, replicate}
 use Rattle.model.specs.Constellation.{Complex, bits_of}
-use Rattle.constellation.specs.Points.{Points, complex_of}
+use Rattle.constellation.specs.Points.{complex_of}
 use Rattle.metric.specs.Keys.{cost_room}
 use Rattle.metric.specs.Rows.{row_at, remainder_of, child_of, child_key}
 use Rattle.metric.specs.Parts.{span, remainder_bound}
-use Rattle.axes.specs.Tables.{axis_place, table_part, parts_in, Tabled}
+use Rattle.axes.specs.Tables.{axis_place, table_part, parts_in}
 use Rattle.axes.specs.Tables.Axis.{real, imaginary}
 use Rattle.search_spec.specs.Program.{above, largest_partial, chosen}
 use Rattle.search_spec.specs.Parts.{NodeParts}
@@ -14,13 +14,12 @@ use Rattle.bounding.specs.Axes.{priced_by}
 use Rattle.bounding.specs.Answers.{some_child_may_pass, some_child_may_pass_by_parts}
 use Rattle.limits.specs.Reach.{first_place, entries_of, symbol_of}
 use Rattle.enumeration.specs.Rows.{key_count, keys_in, RowLeast}
-use Rattle.hypotheses.specs.Limits.{vector_at, SearchAsked, LimitsAsked}
+use Rattle.hypotheses.specs.Limits.{vector_at, LimitsAsked}
 use Rattle.tree.specs.declared.Task.{Task}
 use Rattle.tree.specs.declared.Node.{Node}
 
--- A node of a vector that a search may be asked for, with both parts of its partial metric
+-- A node of a vector, with both parts of its partial metric
 pub record NodeIn (m q clip : ℕ) (numbers : List ℤ) (n : Node) : Type 0 where
-  pub asked : SearchAsked m q clip numbers
   pub inside : n.level ≤ m
   pub placed : n.bits < 2 ^ chosen (vector_at m q clip numbers) n.level
   pub bounded : n.partial ≤ largest_partial (vector_at m q clip numbers) n.level
@@ -34,18 +33,23 @@ kid_of m q numbers n s = child_of m q numbers (n.level - 1) n.bits n.partial s
 abbrev pub kid_key : ℕ → ℕ → List ℤ → Node → ℕ → ℕ
 kid_key m q numbers n s = child_key m q numbers (n.level - 1) n.bits n.partial s
 
--- What asking whether a child of a node may pass asks: `re` and `im` are what remains of y in the children's row
-pub record OpenAsked (t : Task) (numbers tables : List ℤ) (n : Node) (best : ℕ) (re im : ℤ) (limits : List ℕ) : Type 0 where
-  pub node : NodeIn t.streams t.width t.clip numbers n
-  pub inner : 0 < n.level
-  pub tabled : Tabled t.streams t.width numbers tables
-  pub limited : LimitsAsked t.streams t.width limits
-  pub lowest : best ≤ above
-  pub left : complex_of re im
-      ≡ remainder_of t.width (row_at t.streams t.width numbers (n.level - 1))
-      (bits_of ((t.streams - suc (n.level - 1)) * t.width) n.bits)
+-- What remains of y in the row of a node's children
+abbrev pub left_of : ℕ → ℕ → List ℤ → Node → Complex
+left_of m q numbers n = remainder_of q (row_at m q numbers (n.level - 1)) (bits_of ((m - suc (n.level - 1)) * q) n.bits)
+
+-- `re` and `im` are its parts
+pub record Remains (m q : ℕ) (numbers : List ℤ) (n : Node) (re im : ℤ) : Type 0 where
+  pub is : complex_of re im ≡ left_of m q numbers n
   pub low_re : nat_abs re < remainder_bound
   pub low_im : nat_abs im < remainder_bound
+
+-- What asking whether a child of a node may pass asks: `re` and `im` are what remains of y in the children's row
+pub record OpenAsked (t : Task) (numbers : List ℤ) (n : Node) (best : ℕ) (re im : ℤ) (limits : List ℕ) : Type 0 where
+  pub node : NodeIn t.streams t.width t.clip numbers n
+  pub inner : 0 < n.level
+  pub limited : LimitsAsked t.streams t.width limits
+  pub lowest : best ≤ above
+  pub left : Remains t.streams t.width numbers n re im
 
 -- What all children of a node with `level` streams to choose are held against: below it each of them passes
 abbrev pub base_of : ℕ → List ℕ → ℕ → ℕ → ℕ
@@ -72,16 +76,16 @@ may_pass_at m q numbers tables n label best re im limits =
     || some_child_may_pass_by_parts q n.partial base (table_part tables (axis_place row real) re) (table_part tables (axis_place row imaginary) im)
     (entries_of limits row) own)
 
--- What remains of y in the row of a node's children
-abbrev pub left_of : ℕ → ℕ → List ℤ → Node → Complex
-left_of m q numbers n = remainder_of q (row_at m q numbers (n.level - 1)) (bits_of ((m - suc (n.level - 1)) * q) n.bits)
-
--- What looking at a node's children asks
-pub record ExpandAsked (t : Task) (points numbers tables : List ℤ) (n : Node) (best : ℕ) (limits keys : List ℕ) : Type 0 where
+-- What filling in the keys of a node's children asks
+pub record KeysAsked (t : Task) (numbers : List ℤ) (n : Node) (keys : List ℕ) : Type 0 where
   pub node : NodeIn t.streams t.width t.clip numbers n
   pub inner : 0 < n.level
-  pub tabled : Tabled t.streams t.width numbers tables
-  pub pointed : Points t.width points
+  pub room : n.level * key_count t.width ≤ length keys
+
+-- What looking at them asks
+pub record ExpandAsked (t : Task) (numbers : List ℤ) (n : Node) (best : ℕ) (limits keys : List ℕ) : Type 0 where
+  pub node : NodeIn t.streams t.width t.clip numbers n
+  pub inner : 0 < n.level
   pub limited : LimitsAsked t.streams t.width limits
   pub lowest : best ≤ above
   pub room : n.level * key_count t.width ≤ length keys

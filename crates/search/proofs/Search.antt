@@ -22,14 +22,14 @@ use Rattle.search_spec.proofs.Early.{rest_beyond, below_shut}
 use Rattle.enumeration.specs.Rows.{key_count, RowLeast, Took}
 use Rattle.enumeration.proofs.Rows.{row_least_front}
 use Rattle.enumeration.proofs.Taking.{took_same}
-use Rattle.hypotheses.specs.Limits.{vector_at, LimitsAsked, Limited}
+use Rattle.hypotheses.specs.Limits.{vector_at, SearchAsked, LimitsAsked, Limited}
 use Rattle.turn.specs.Limits.{passes_at, opposite}
 use Rattle.search.specs.Nodes.{NodeAsked, Renewal}
 use Rattle.turn.specs.Turn.{behind, NextAsked, next_of}
 use Rattle.expansion.specs.Expand.{NodeIn, kid_key, Shut, Filled}
 use Rattle.tree.specs.declared.Node.{Node}
 use Rattle.expansion.proofs.Rows.{partial_by, key_by}
-use Rattle.expansion.proofs.Nodes.{keys_rise, room_for, in_range, within, chosen_few, node_placed, level_up, some, row_inside, kid_low}
+use Rattle.expansion.proofs.Nodes.{keys_rise, room_for, in_range, within, node_placed, level_up, some, row_inside, kid_low}
 use Rattle.turn.proofs.Levels.{room_below}
 use Rattle.turn.proofs.Limits.{passing_by, child_reach, would_cut}
 use Rattle.turn.proofs.Next.{next_low, next_within, next_bits, next_in}
@@ -49,8 +49,8 @@ pub record Searching (m q clip : ℕ) (numbers : List ℤ) (allowance : ℕ) (n 
   pub limited : Limited (vector_at m q clip numbers) k.taken limits
   pub opposed : n.chosen ≡ opposite m q limits k.taken.label n.level n.bits
 
--- A node of a vector
-module _ {m q clip : ℕ} {numbers : List ℤ} {n : Node} (w : NodeIn m q clip numbers n) where
+-- A node of a vector that a search may be asked for
+module _ {m q clip : ℕ} {numbers : List ℤ} (a : SearchAsked m q clip numbers) {n : Node} (w : NodeIn m q clip numbers n) where
   abbrev v : Vector
   v = vector_at m q clip numbers
 
@@ -59,7 +59,7 @@ module _ {m q clip : ℕ} {numbers : List ℤ} {n : Node} (w : NodeIn m q clip n
 
   -- The places of its keys are few
   pub places_few : key_count q ≤ key_count most_width
-  places_few = keys_rise w.asked.vector.bits
+  places_few = keys_rise a.vector.bits
 
   pub limits_asked : (t : Taken) (limits : List ℕ) → Limited v t limits → LimitsAsked m q limits
   limits_asked t limits limited = subst (λ (k : ℕ). LimitsAsked k q limits) streams limited.asked
@@ -79,18 +79,18 @@ module _ {m q clip : ℕ} {numbers : List ℤ} {n : Node} (w : NodeIn m q clip n
           → kept_of count stopped t ≡ below v allowance n.level n.bits n.partial (kept_of count false t)
       shut allowance cuts count stopped f =
           ap (λ (x : Bool). kept_of count x t) f
-          ∙ sym (ap (λ (l : ℕ). below v allowance l n.bits n.partial (kept_of count false t)) (level_up w inner)
+          ∙ sym (ap (λ (l : ℕ). below v allowance l n.bits n.partial (kept_of count false t)) (level_up a w inner)
           ∙ below_shut v allowance (n.level - 1) n.bits n.partial (kept_of count false t)
-          (λ s h. (kid_Under v n.level (some w inner) (within w) (in_range w) n.partial w.bounded n.bits s, symbol_cheap v (in_range w) (n.level - 1) s))
+          (λ s h. (kid_Under v n.level (some a w inner) (within a w) (in_range a w) n.partial w.bounded n.bits s, symbol_cheap v (in_range a w) (n.level - 1) s))
           fails)
         where
           fails : (s : ℕ) → s < 2 ^ q
               → passing v t (partial_of v (n.level - 1) n.bits n.partial s) ((n.level - 1) * q) (child_in v (n.level - 1) n.bits s) ≡ false
           fails s h =
-              let e = child_by v n.level (some w inner) (within w) m n.bits s (s * 2 ^ ((m - n.level) * q) + n.bits) (sym streams) refl in
-              rw (← partial_by m q numbers w.asked.vector clip (n.level - 1) n.bits n.partial s (row_inside w inner), ← e)
-              (would_cut v t limits limited m (sym streams) n.level n.bits s _ (some w inner) w.inside (node_placed w) w.asked.vector.bits h
-              n.chosen opposed (cuts s h) (kid_low w inner s))
+              let e = child_by v n.level (some a w inner) (within a w) m n.bits s (s * 2 ^ ((m - n.level) * q) + n.bits) (sym streams) refl in
+              rw (← partial_by m q numbers a.vector clip (n.level - 1) n.bits n.partial s (row_inside a w inner), ← e)
+              (would_cut v t limits limited m (sym streams) n.level n.bits s _ (some a w inner) w.inside (node_placed a w) a.vector.bits h
+              n.chosen opposed (cuts s h) (kid_low a w inner s))
 
     -- Before the first child, with the keys of all
     pub start : (t : Taken) (limits : List ℕ) → t.best ≤ above → Limited v t limits
@@ -100,7 +100,7 @@ module _ {m q clip : ℕ} {numbers : List ℤ} {n : Node} (w : NodeIn m q clip n
         (kept_of count stopped t) limits
     start t limits lowest limited opposed allowance keys wide filled count stopped f =
         let g : (s : ℕ) → s < 2 ^ q → get_or keys s 0 ≡ key_of v (n.level - 1) n.bits n.partial s =
-        λ s h. filled.each s h ∙ key_by m q numbers w.asked.vector clip (n.level - 1) n.bits n.partial s (row_inside w inner)
+        λ s h. filled.each s h ∙ key_by m q numbers a.vector clip (n.level - 1) n.bits n.partial s (row_inside a w inner)
         in
         record {
           node = w;
@@ -109,16 +109,16 @@ module _ {m q clip : ℕ} {numbers : List ℤ} {n : Node} (w : NodeIn m q clip n
           rows = filled.rows;
           lowest = lowest;
           running = f;
-          held = keys_held v n.level (some w inner) (within w) (in_range w) n.partial w.bounded n.bits keys g;
+          held = keys_held v n.level (some a w inner) (within a w) (in_range a w) n.partial w.bounded n.bits keys g;
           left = rw f
-              (rest_start v (2 ^ q) refl allowance n.bits n.level (some w inner) n.partial keys (omega (arith, room_for n.level q inner (length keys) wide)) g (kept_of count false t));
+              (rest_start v (2 ^ q) refl allowance n.bits n.level (some a w inner) n.partial keys (omega (arith, room_for n.level q inner (length keys) wide)) g (kept_of count false t));
           limited = limited;
           opposed = opposed;
         }
 
 -- A turn
-module _ {m q clip : ℕ} {numbers : List ℤ} {allowance : ℕ} {n : Node} {whole : Kept} {turns : ℕ} {keys : List ℕ} {k : Kept}
-    {limits : List ℕ} (h : Searching m q clip numbers allowance n whole turns keys k limits) where
+module _ {m q clip : ℕ} {numbers : List ℤ} (a : SearchAsked m q clip numbers) {allowance : ℕ} {n : Node} {whole : Kept} {turns : ℕ}
+    {keys : List ℕ} {k : Kept} {limits : List ℕ} (h : Searching m q clip numbers allowance n whole turns keys k limits) where
   abbrev w : NodeIn m q clip numbers n
   w = h.node
 
@@ -146,63 +146,60 @@ module _ {m q clip : ℕ} {numbers : List ℤ} {allowance : ℕ} {n : Node} {who
     key_is : get_or keys s 0 ≡ kid_key m q numbers n s
     key_is =
         held_least h.held more s refl
-        ∙ sym (key_by m q numbers w.asked.vector clip (n.level - 1) n.bits n.partial s (row_inside w h.inner))
+        ∙ sym (key_by m q numbers a.vector clip (n.level - 1) n.bits n.partial s (row_inside a w h.inner))
 
     metric_low : d < above
-    metric_low = next_low w h.inner keys key_is
+    metric_low = next_low a w h.inner keys key_is
 
     -- A key left is not above that of a tried child
     key_low : get_or keys s 0 ≤ tried
     key_low = low_key (get_or keys s 0) metric_low
 
     child_is : next.bits ≡ child_in at (n.level - 1) n.bits s
-    child_is = next_bits w h.inner keys key_is k.taken.label limits
+    child_is = next_bits a w h.inner keys key_is k.taken.label limits
 
     -- It is a node of the vector
     pub child_in_lem : NodeIn m q clip numbers next
-    child_in_lem = next_in w h.inner keys key_is k.taken.label limits
+    child_in_lem = next_in a w h.inner keys key_is k.taken.label limits
 
     -- What a turn asks of the node, its limits and keys
     pub next_asked : NextAsked m q n limits keys
     next_asked = record {
-      bits = w.asked.vector.bits;
-      streams = w.asked.vector.streams;
       inner = h.inner;
       inside = w.inside;
-      few = chosen_few w;
-      placed = node_placed w;
+      placed = node_placed a w;
       size = h.limited.asked.size;
       rows = h.rows;
       low = metric_low;
-      within = next_within w h.inner keys key_is;
+      within = next_within a w h.inner keys key_is;
     }
 
     -- What its chosen bits give
     opposed : next.chosen ≡ opposite m q limits k.taken.label next.level next.bits
     opposed =
         rw h.opposed
-        (sym (child_reach at k.taken limits h.limited m (sym (streams w)) n.level n.bits s d (some w h.inner) w.inside (node_placed w)
-        w.asked.vector.bits symbol))
+        (sym (child_reach at k.taken limits h.limited m (sym (streams a w)) n.level n.bits s d (some a w h.inner) w.inside (node_placed a w)
+        a.vector.bits symbol))
 
     -- The pass tests that the code makes are the definition's
     passes_is : passes_at k.taken.best limits next.chosen next.partial next.level
         ≡ passing at k.taken d ((n.level - 1) * q) next.bits
     passes_is =
         ap (λ (x : ℕ). passes_at k.taken.best limits x d (n.level - 1)) opposed
-        ∙ sym (passing_by at k.taken limits h.limited m (sym (streams w)) (n.level - 1) next.bits (omega (arith, w.inside)) d (le_of_lt metric_low))
+        ∙ sym (passing_by at k.taken limits h.limited m (sym (streams a w)) (n.level - 1) next.bits (omega (arith, w.inside)) d (le_of_lt metric_low))
 
     -- The children end
     pub ended : passes_at k.taken.best limits n.chosen next.partial n.level ≡ false → k ≡ whole
     ended fails =
         sym
         (h.left
-        ∙ rest_beyond at allowance n.bits (n.level - 1) (2 ^ q - turns) keys k (omega (arith, within w, h.inner))
-        (subst (λ (l : ℕ). n.bits < 2 ^ chosen at l) (level_up w h.inner) w.placed) key_low
-        (subst (λ (l : ℕ). false ≡ passing at k.taken d (l * q) n.bits) (level_up w h.inner) (sym node_fails)))
+        ∙ rest_beyond at allowance n.bits (n.level - 1) (2 ^ q - turns) keys k (omega (arith, within a w, h.inner))
+        (subst (λ (l : ℕ). n.bits < 2 ^ chosen at l) (level_up a w h.inner) w.placed) key_low
+        (subst (λ (l : ℕ). false ≡ passing at k.taken d (l * q) n.bits) (level_up a w h.inner) (sym node_fails)))
       where
         node_fails : passing at k.taken d (n.level * q) n.bits ≡ false
         node_fails =
-            passing_by at k.taken limits h.limited m (sym (streams w)) n.level n.bits w.inside d (le_of_lt metric_low)
+            passing_by at k.taken limits h.limited m (sym (streams a w)) n.level n.bits w.inside d (le_of_lt metric_low)
             ∙ ap (λ (x : ℕ). passes_at k.taken.best limits x d n.level) (sym h.opposed) ∙ fails
 
     -- The allowance is used up
@@ -270,7 +267,7 @@ module _ {m q clip : ℕ} {numbers : List ℤ} {allowance : ℕ} {n : Node} {who
             (h.left
             ∙ rest_onward at (2 ^ q) refl allowance n.bits (n.level - 1) turns keys k more s refl next.bits child_is
             (sym (sym passes_is ∙ passes)) h.running counts u
-            (shut child_in_lem inner k.taken limits h.limited opposed allowance cuts (k.count + 1) k.stopped h.running) h.running)
+            (shut a child_in_lem inner k.taken limits h.limited opposed allowance cuts (k.count + 1) k.stopped h.running) h.running)
 
         -- It is searched
         module _ (u : Kept) (is : Found u) where
@@ -290,7 +287,6 @@ module _ {m q clip : ℕ} {numbers : List ℤ} {allowance : ℕ} {n : Node} {who
               let same = same_part (2 ^ q) (key_count q) after tail (omega arith) wide in
               rw (e.level_is, e.bits_is, e.partial_is) (record {
                 node = record {
-                  asked = w.asked;
                   inside = w.inside;
                   placed = w.placed;
                   bounded = w.bounded;

@@ -65,7 +65,6 @@ module _ {m q clip : ℕ} {numbers : List ℤ} (h : SearchAsked m q clip numbers
       → NodeAsked m q clip numbers (record { level = m; bits = 0; partial = 0; distance = 0; cost = 0; chosen = 0 }) (taken_in 0 above untaken) (limits_of untaken) keys
   root_asked keys wide = record {
     node = record {
-      asked = h;
       inside = le_refl m;
       placed = pow_pos (chosen (vector_at m q clip numbers) m);
       bounded = omega arith;

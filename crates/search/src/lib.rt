@@ -4,7 +4,6 @@
 ghost use Rattle.std.specs.Prelude.{◌≡◌, true, false, ◌+◌, ◌*◌, ◌-◌, ◌<◌, ◌≤◌, ◌^◌, length};
 ghost use Rattle.model.specs.Block.{empty_side, most_streams, most_width};
 ghost use Rattle.constellation.specs.Points.{Points};
-ghost use Rattle.axes.specs.Tables.{Tabled};
 ghost use Rattle.search_spec.specs.Program.{taken_in, limits_of, kept_of, below};
 ghost use Rattle.search_spec.specs.Parts.{BestParts};
 ghost use Rattle.limits.specs.Reach.{limits_size};
@@ -15,7 +14,7 @@ ghost use Rattle.search.specs.Values.{Answered};
 
 use axes::TABLE;
 use constellation::PLACES;
-use metric::AXES;
+use expansion::Vector;
 use tree::{ABOVE, Kept, Node, Task};
 use turn::Turn;
 
@@ -25,107 +24,82 @@ pub const KEYS: usize = 3 * 288;
 // One node more is counted.
 fn counted(kept: Kept) -> Kept
     requires { kept.count < 2 ^ 32 - 1 }
-    ensures { (result.count ≡ kept.count + 1) × (result.stopped ≡ kept.stopped) × (result.label ≡ kept.label) × (result.best ≡ kept.best)
-        × (result.distance ≡ kept.distance) × (result.cost ≡ kept.cost) }
+    ensures { result ≡ record kept { count = kept.count + 1 } }
 {
     Kept {
         count: kept.count + 1,
-        stopped: kept.stopped,
-        label: kept.label,
-        best: kept.best,
-        distance: kept.distance,
-        cost: kept.cost,
+        ..kept
     }
 }
 
 // The allowance is used up.
 fn halted(kept: Kept) -> Kept
-    ensures { (result.count ≡ kept.count) × (result.stopped ≡ true) × (result.label ≡ kept.label) × (result.best ≡ kept.best)
-        × (result.distance ≡ kept.distance) × (result.cost ≡ kept.cost) }
+    ensures { result ≡ record kept { stopped = true } }
 {
     Kept {
-        count: kept.count,
         stopped: true,
-        label: kept.label,
-        best: kept.best,
-        distance: kept.distance,
-        cost: kept.cost,
+        ..kept
     }
 }
 
 // A node after leaves were walked below it: the limits and the best label may be others.
-fn renew_node(task: Task, node: Node, label: u32, limits: &[u64]) -> Node
-    requires { (task.streams ≤ most_streams) × (task.width ≤ most_width) × (node.level ≤ task.streams) × (length limits.now ≡ limits_size) }
-    ensures { Renewal task.streams task.width label limits.now node result }
+fn renew_node(vector: &Vector<'_>, node: Node, label: u32, limits: &[u64]) -> Node
+    requires { (node.level ≤ vector.now.task.streams) × (length limits.now ≡ limits_size) }
+    ensures { Renewal vector.now.task.streams vector.now.task.width label limits.now node result }
 {
     Node {
-        level: node.level,
-        bits: node.bits,
-        partial: node.partial,
-        distance: node.distance,
-        cost: node.cost,
         chosen: limits::chosen(
-            task.streams,
-            task.width,
+            vector.task.streams,
+            vector.task.width,
             limits,
             node.level,
             node.bits ^ label,
         ),
+        ..node
     }
 }
 
 // The search below a node: its children, whose keys are filled in, are tried in order, each cut, counted, taken as a leaf or searched, until
 // they end. The keys of the levels below stand behind them.
-fn walk(
-    task: Task,
-    node: Node,
-    kept: Kept,
-    points: &[i8; PLACES],
-    numbers: &[i32],
-    tables: &[i32; TABLE],
-    minima: &mut [u64],
-    keys: &mut [u64],
-) -> Kept
-    requires { NodeAsked task.streams task.width task.clip numbers.now node
-        (taken_in kept.label kept.best minima.old) (limits_of minima.old) keys.old
-        × (kept.stopped ≡ false) × Tabled task.streams task.width numbers.now tables.now
-        × (length minima.old ≡ minima_size) × Points task.width points.now
-        × (0 < node.level) × Filled task.streams task.width numbers.now node keys.old
-        × BestParts (vector_for task numbers.now) kept }
-    ensures { (kept_of result.count result.stopped (taken_in result.label result.best minima.new)
-        ≡ below (vector_for task numbers.now) task.allowance node.level node.bits node.partial
-        (kept_of kept.count false (taken_in kept.label kept.best minima.old)))
-        × Limited (vector_for task numbers.now) (taken_in result.label result.best minima.new)
-        (limits_of minima.new) × (length minima.new ≡ minima_size)
-        × BestParts (vector_for task numbers.now) result }
+fn walk(vector: &Vector<'_>, node: Node, kept: Kept, minima: &mut [u64], keys: &mut [u64]) -> Kept
+    requires asked { NodeAsked vector.now.task.streams vector.now.task.width vector.now.task.clip vector.now.numbers.now node
+        (taken_in kept.label kept.best minima.old) (limits_of minima.old) keys.old }
+    requires inner { 0 < node.level }
+    requires running { kept.stopped ≡ false }
+    requires whole { length minima.old ≡ minima_size }
+    requires filled { Filled vector.now.task.streams vector.now.task.width vector.now.numbers.now node keys.old }
+    requires parts { BestParts (vector_for vector.now.task vector.now.numbers.now) kept }
+    ensures found { kept_of result.count result.stopped (taken_in result.label result.best minima.new)
+        ≡ below (vector_for vector.now.task vector.now.numbers.now) vector.now.task.allowance node.level node.bits node.partial
+        (kept_of kept.count false (taken_in kept.label kept.best minima.old)) }
+    ensures limited { Limited (vector_for vector.now.task vector.now.numbers.now) (taken_in result.label result.best minima.new)
+        (limits_of minima.new) }
+    ensures whole { length minima.new ≡ minima_size }
+    ensures parts { BestParts (vector_for vector.now.task vector.now.numbers.now) result }
 {
-    let places = turn::key_places(task.width);
-    let n: usize = 1 << task.width;
+    let places = turn::key_places(vector.task.width);
+    let n: usize = 1 << vector.task.width;
     let mut k = kept;
     let mut parent = node;
     let mut tried = 0;
     // Not `<`: the compiler would turn that into a shift at every turn.
     while tried != n {
-        let limits = &minima[hypotheses::LIMITS..];
-        match turn::advance(task, parent, k, points, numbers, tables, limits, keys) {
+        match turn::advance(vector, parent, k, &minima[hypotheses::LIMITS..], keys) {
             Turn::Ended => return k,
             Turn::Stop => return halted(k),
             Turn::Left => {
                 k = counted(k);
             }
             Turn::Leaf(leaf) => {
-                let found = hypotheses::take(task, leaf, counted(k), numbers, minima);
-                parent = renew_node(task, parent, found.label, &minima[hypotheses::LIMITS..]);
-                k = found;
+                k = hypotheses::take(vector.task, leaf, counted(k), vector.numbers, minima);
+                parent = renew_node(vector, parent, k.label, &minima[hypotheses::LIMITS..]);
             }
             Turn::Enter(child) => {
-                let next = counted(k);
-                let lower = &mut keys[places..];
-                k = walk(task, child, next, points, numbers, tables, minima, lower);
+                k = walk(vector, child, counted(k), minima, &mut keys[places..]);
                 if k.stopped {
                     return k;
                 }
-                parent = renew_node(task, parent, k.label, &minima[hypotheses::LIMITS..]);
+                parent = renew_node(vector, parent, k.label, &minima[hypotheses::LIMITS..]);
             }
             Turn::Cut => {}
         }
@@ -136,34 +110,25 @@ fn walk(
 
 // The search below the root. Before the first leaf nothing is cut, so the keys of its children are filled in at once; and `expand` has one
 // caller, which the compiler then makes it part of.
-fn begin(
-    task: Task,
-    root: Node,
-    kept: Kept,
-    points: &[i8; PLACES],
-    numbers: &[i32],
-    tables: &[i32; TABLE],
-    minima: &mut [u64],
-    keys: &mut [u64],
-) -> Kept
-    requires { NodeAsked task.streams task.width task.clip numbers.now root
-        (taken_in kept.label kept.best minima.old) (limits_of minima.old) keys.old × (0 < root.level)
-        × (kept.stopped ≡ false) × Tabled task.streams task.width numbers.now tables.now
-        × (length minima.old ≡ minima_size) × Points task.width points.now × BestParts (vector_for task numbers.now) kept }
-    ensures { (kept_of result.count result.stopped (taken_in result.label result.best minima.new)
-        ≡ below (vector_for task numbers.now) task.allowance root.level root.bits root.partial
-        (kept_of kept.count false (taken_in kept.label kept.best minima.old)))
-        × (length minima.new ≡ minima_size) × BestParts (vector_for task numbers.now) result }
+fn begin(vector: &Vector<'_>, root: Node, kept: Kept, minima: &mut [u64], keys: &mut [u64]) -> Kept
+    requires asked { NodeAsked vector.now.task.streams vector.now.task.width vector.now.task.clip vector.now.numbers.now root
+        (taken_in kept.label kept.best minima.old) (limits_of minima.old) keys.old }
+    requires inner { 0 < root.level }
+    requires running { kept.stopped ≡ false }
+    requires whole { length minima.old ≡ minima_size }
+    requires parts { BestParts (vector_for vector.now.task vector.now.numbers.now) kept }
+    ensures found { kept_of result.count result.stopped (taken_in result.label result.best minima.new)
+        ≡ below (vector_for vector.now.task vector.now.numbers.now) vector.now.task.allowance root.level root.bits root.partial
+        (kept_of kept.count false (taken_in kept.label kept.best minima.old)) }
+    ensures whole { length minima.new ≡ minima_size }
+    ensures parts { BestParts (vector_for vector.now.task vector.now.numbers.now) result }
 {
-    let row = root.level - 1;
-    let left = metric::remainder(points, numbers, task.streams, task.width, row, root.bits);
-    let mut axes = [0u64; AXES];
-    axes::fill_parts(task, row, left, numbers, tables, &mut axes);
-    enumeration::fill(task.width, root.partial, &axes, keys);
-    walk(task, root, kept, points, numbers, tables, minima, keys)
+    vector.fill_keys(root, keys);
+    walk(vector, root, kept, minima, keys)
 }
 
-// What a reply says of a vector, but for its soft values, and the label's squared distance.
+// What a reply says of a vector, but for its soft values, and the label's squared distance. `stopped` is document 01's mark, which the reply
+// has beside every label: a value of its own, and so no Option round another.
 #[derive(Clone, Copy)]
 pub struct Found {
     pub stopped: bool,
@@ -214,16 +179,13 @@ pub fn search_vector(
         cost: 0,
         chosen: 0,
     };
-    let end = begin(
+    let vector = Vector {
         task,
-        root,
-        start,
         points,
         numbers,
-        &tables,
-        &mut minima,
-        keys,
-    );
+        tables: &tables,
+    };
+    let end = begin(&vector, root, start, &mut minima, keys);
     let empty = empty_side(end.stopped, weak, task.clip);
     hypotheses::write_soft(task, empty, numbers, &minima, soft);
     Found {

@@ -20,7 +20,7 @@ use Rattle.search_spec.specs.Program.{above, no_row, chosen, partial_of, symbol_
 use Rattle.search_spec.proofs.Answer.{symbol_cheap}
 use Rattle.search_spec.proofs.Bounds.{symbol_inside, chosen_by_lem, partial_bound, partial_under, child_placed, child_by}
 use Rattle.search_spec.proofs.Parts.{child_parts, parts_sum}
-use Rattle.hypotheses.specs.Limits.{vector_at}
+use Rattle.hypotheses.specs.Limits.{vector_at, SearchAsked}
 use Rattle.expansion.specs.Expand.{NodeIn, kid_key}
 use Rattle.expansion.proofs.Rows.{row_is, partial_by}
 use Rattle.expansion.proofs.Nodes.{in_range, within, level_up, some, row_inside}
@@ -42,7 +42,8 @@ next_parted m q numbers n sum label limits keys cheap is =
     parted m q numbers (n.level - 1) n.bits n.distance n.cost s (get_or keys s 0) cheap
     (is ∙ ap (λ (d : ℕ). child_key m q numbers (n.level - 1) n.bits d s) sum)
 
-module _ {m q clip : ℕ} {numbers : List ℤ} {n : Node} (w : NodeIn m q clip numbers n) (inner : 0 < n.level) (keys : List ℕ)
+module _ {m q clip : ℕ} {numbers : List ℤ} (a : SearchAsked m q clip numbers) {n : Node} (w : NodeIn m q clip numbers n) (inner : 0 < n.level)
+    (keys : List ℕ)
     (is : get_or keys (least_first keys (2 ^ q)) 0 ≡ kid_key m q numbers n (least_first keys (2 ^ q))) where
   abbrev v : Vector
   v = vector_at m q clip numbers
@@ -53,17 +54,17 @@ module _ {m q clip : ℕ} {numbers : List ℤ} {n : Node} (w : NodeIn m q clip n
   cheap : symbol_cost_in m q numbers (n.level - 1) s < cost_room
   unfolding symbol_cost
   cheap =
-      subst (λ (r : Row). prior_cost r.priors (bits_of q s) < cost_room) (row_is m q numbers w.asked.vector (n.level - 1) no_row (row_inside w inner))
-      (symbol_cheap v (in_range w) (n.level - 1) s)
+      subst (λ (r : Row). prior_cost r.priors (bits_of q s) < cost_room) (row_is m q numbers a.vector (n.level - 1) no_row (row_inside a w inner))
+      (symbol_cheap v (in_range a w) (n.level - 1) s)
 
   -- The metric in its key is its partial metric,
   metric_is : metric_in (get_or keys s 0) ≡ partial_of v (n.level - 1) n.bits n.partial s
   metric_is =
-      ap metric_in is ∙ key_metric _ _ cheap ∙ partial_by m q numbers w.asked.vector clip (n.level - 1) n.bits n.partial s (row_inside w inner)
+      ap metric_in is ∙ key_metric _ _ cheap ∙ partial_by m q numbers a.vector clip (n.level - 1) n.bits n.partial s (row_inside a w inner)
 
   -- which is not above the sentinel
   pub next_low : metric_in (get_or keys s 0) < above
-  next_low = rw metric_is (partial_under v n.level (some w inner) (within w) (in_range w) n.partial w.bounded n.bits s)
+  next_low = rw metric_is (partial_under v n.level (some a w inner) (within a w) (in_range a w) n.partial w.bounded n.bits s)
 
   both : (label : ℕ) (limits : List ℕ)
       → let child = next_of m q n label limits keys in
@@ -81,26 +82,25 @@ module _ {m q clip : ℕ} {numbers : List ℤ} {n : Node} (w : NodeIn m q clip n
 
   -- Its row and the bits after its symbol, as the search names them
   row_same : get_or v.rows (n.level - 1) no_row ≡ row_at m q numbers (n.level - 1)
-  row_same = row_is m q numbers w.asked.vector (n.level - 1) no_row (row_inside w inner)
+  row_same = row_is m q numbers a.vector (n.level - 1) no_row (row_inside a w inner)
 
   chosen_same : chosen v n.level ≡ (m - suc (n.level - 1)) * q
-  chosen_same = chosen_by_lem v m n.level (sym (rows_count m q numbers)) ∙ ap (λ (l : ℕ). (m - l) * q) (level_up w inner)
+  chosen_same = chosen_by_lem v m n.level (sym (rows_count m q numbers)) ∙ ap (λ (l : ℕ). (m - l) * q) (level_up a w inner)
 
   module _ (label : ℕ) (limits : List ℕ) where
     abbrev next : Node
     next = next_of m q n label limits keys
 
     pub next_bits : next.bits ≡ child_in v (n.level - 1) n.bits s
-    next_bits = child_by v n.level (some w inner) (within w) m n.bits s next.bits (sym (rows_count m q numbers)) refl
+    next_bits = child_by v n.level (some a w inner) (within a w) m n.bits s next.bits (sym (rows_count m q numbers)) refl
 
     pub next_in : NodeIn m q clip numbers next
     next_in = record {
-      asked = w.asked;
       inside = omega (arith, w.inside);
-      placed = child_placed v n.level (some w inner) (within w) n.bits s next.bits (symbol_least keys q) w.placed next_bits;
-      bounded = rw metric_is (partial_bound v n.level (some w inner) (within w) (in_range w) n.partial w.bounded n.bits s);
+      placed = child_placed v n.level (some a w inner) (within a w) n.bits s next.bits (symbol_least keys q) w.placed next_bits;
+      bounded = rw metric_is (partial_bound v n.level (some a w inner) (within a w) (in_range a w) n.partial w.bounded n.bits s);
       parts =
           let p = both label limits in
-          child_parts v n w.parts (some w inner) (within w) w.placed s next refl next_bits (rw (row_same, chosen_same) (p.sum_is ∙ ap (λ (d : ℕ). d + increment q (row_at m q numbers (n.level - 1)) (child_bits m q (n.level - 1) n.bits s)) (sym (parts_sum v n w.parts))))
+          child_parts v n w.parts (some a w inner) (within a w) w.placed s next refl next_bits (rw (row_same, chosen_same) (p.sum_is ∙ ap (λ (d : ℕ). d + increment q (row_at m q numbers (n.level - 1)) (child_bits m q (n.level - 1) n.bits s)) (sym (parts_sum v n w.parts))))
           (rw (row_same, chosen_same) p.distance_is) (rw row_same p.cost_is);
     }

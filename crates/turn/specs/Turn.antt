@@ -1,8 +1,5 @@
 -- A turn over a node's children, by the arrays of limits and keys.
 use Rattle.std.specs.Prelude.{ℕ, ◌+◌, ◌-◌, ◌*◌, ◌≤◌, ◌<◌, ◌^◌, max, ◌≡◌, true, false, List, ℤ, length, get_or, take, drop}
-use Rattle.model.specs.Block.{most_streams, most_width, most_bits}
-use Rattle.constellation.specs.Points.{Points}
-use Rattle.axes.specs.Tables.{Tabled}
 use Rattle.metric.specs.Keys.{cost_room, metric_in, cost_in}
 use Rattle.metric.specs.Rows.{symbol_cost_in}
 use Rattle.metric.specs.Children.{Parted}
@@ -25,11 +22,8 @@ behind q keys = take (length keys - key_count q) (drop (key_count q) keys)
 
 -- What taking a node's next child asks: its partial metric is no less than its prior cost
 pub record NextAsked (m q : ℕ) (n : Node) (limits keys : List ℕ) : Type 0 where
-  pub bits : q ≤ most_width
-  pub streams : m ≤ most_streams
   pub inner : 0 < n.level
   pub inside : n.level ≤ m
-  pub few : (m - n.level) * q ≤ most_bits
   pub placed : n.bits < 2 ^ ((m - n.level) * q)
   pub size : length limits ≡ limits_size
   pub rows : RowLeast q keys
@@ -62,10 +56,8 @@ pub record NextChild (m q : ℕ) (n : Node) (label : ℕ) (limits old new : List
       → Parted m q numbers (n.level - 1) n.bits n.distance n.cost s child.distance child.cost child.partial
 
 -- What a turn asks: of the next child, too
-pub record AdvanceAsked (t : Task) (points numbers tables : List ℤ) (n : Node) (k : Kept) (limits keys : List ℕ) : Type 0 where
+pub record AdvanceAsked (t : Task) (numbers : List ℤ) (n : Node) (k : Kept) (limits keys : List ℕ) : Type 0 where
   pub child : NodeIn t.streams t.width t.clip numbers (next_of t.streams t.width n k.label limits keys)
-  pub tabled : Tabled t.streams t.width numbers tables
-  pub pointed : Points t.width points
   pub limited : LimitsAsked t.streams t.width limits
   pub next : NextAsked t.streams t.width n limits keys
   pub lowest : k.best ≤ above

@@ -9,10 +9,9 @@ ghost use Rattle.enumeration.specs.Rows.{key_count, LeastRow};
 ghost use Rattle.turn.specs.Limits.{passes_at};
 ghost use Rattle.turn.specs.Turn.{NextAsked, NextChild, AdvanceAsked, Advanced};
 
-use axes::TABLE;
-use constellation::PLACES;
 use enumeration::Row;
-use tree::{COST_ROOM, Kept, Node, Task};
+use expansion::Vector;
+use tree::{COST_ROOM, Kept, Node};
 
 // What a turn over a node's children came to: no child that is left passes; the next child is cut; the allowance is used up; or the child is
 // to be counted, and then left, since all of its own children would be cut, or taken as a leaf, or searched.
@@ -28,17 +27,12 @@ pub enum Turn {
 
 // Does a node of partial metric d pass? `level` streams are not chosen yet, and `chosen` is the widest limit of the chosen bits that are
 // opposite to the best label's.
+#[tactic(auto, unfolding(crate::specs::Limits::passes_at))]
 fn passes(kept: Kept, limits: &[u64], d: u64, level: usize, chosen: u64) -> bool
     requires { (level ≤ most_streams) × (length limits.now ≡ limits_size) }
     ensures { result ≡ passes_at kept.best limits.now chosen d level }
 {
-    if d <= kept.best {
-        return true;
-    }
-    if d < limits[limits::FIRST + level] {
-        return true;
-    }
-    d < chosen
+    d <= kept.best || d < limits[limits::FIRST + level] || d < chosen
 }
 
 // The node's bits with one more symbol before them.
@@ -52,19 +46,19 @@ fn with_symbol(symbol: usize, bits: usize, node: u32) -> u32
 // The next child, the first of the smallest keys: squared distance, prior cost and their sum, by that key. Its chosen bits are those of its own
 // symbol and its parent's.
 fn next_child(
-    task: Task,
+    vector: &Vector<'_>,
     node: Node,
     next: Row,
     label: u32,
     limits: &[u64],
     keys: &mut [u64],
 ) -> Node
-    requires { NextAsked task.streams task.width node limits.now keys.old
-        × LeastRow task.width keys.old next.row next.key }
-    ensures { NextChild task.streams task.width node label limits.now keys.old keys.new result }
+    requires { NextAsked vector.now.task.streams vector.now.task.width node limits.now keys.old
+        × LeastRow vector.now.task.width keys.old next.row next.key }
+    ensures { NextChild vector.now.task.streams vector.now.task.width node label limits.now keys.old keys.new result }
 {
-    let q = task.width;
-    let after = (task.streams - node.level) * q;
+    let q = vector.task.width;
+    let after = (vector.task.streams - node.level) * q;
     let symbol = enumeration::take(q, next.row, keys);
     let own = metric::symbol_at(label, q, after);
     let level = node.level - 1;
@@ -87,44 +81,32 @@ fn next_child(
 // One turn over a node's children. They end where the node itself would not pass with the metric in the smallest key that is left; else the
 // child with that key is taken, cut or counted, and its own children are looked at; their keys stand behind the node's.
 pub fn advance(
-    task: Task,
+    vector: &Vector<'_>,
     node: Node,
     kept: Kept,
-    points: &[i8; PLACES],
-    numbers: &[i32],
-    tables: &[i32; TABLE],
     limits: &[u64],
     keys: &mut [u64],
 ) -> Turn
-    requires { AdvanceAsked task points.now numbers.now tables.now node kept limits.now keys.old }
-    ensures { Advanced task numbers.now node kept limits.now keys.old keys.new result }
+    requires { AdvanceAsked vector.now.task vector.now.numbers.now node kept limits.now keys.old }
+    ensures { Advanced vector.now.task vector.now.numbers.now node kept limits.now keys.old keys.new result }
 {
-    let next = enumeration::least_row(task.width, keys);
+    let next = enumeration::least_row(vector.task.width, keys);
     let least = next.key / COST_ROOM;
     if !passes(kept, limits, least, node.level, node.chosen) {
         return Turn::Ended;
     }
-    let child = next_child(task, node, next, kept.label, limits, keys);
+    let child = next_child(vector, node, next, kept.label, limits, keys);
     if !passes(kept, limits, child.partial, child.level, child.chosen) {
         return Turn::Cut;
     }
-    if task.allowance <= kept.count {
+    if vector.task.allowance <= kept.count {
         return Turn::Stop;
     }
     if child.level == 0 {
         return Turn::Leaf(child);
     }
-    let places = key_places(task.width);
-    if !expansion::expand(
-        task,
-        child,
-        kept,
-        points,
-        numbers,
-        tables,
-        limits,
-        &mut keys[places..],
-    ) {
+    let places = key_places(vector.task.width);
+    if !vector.expand(child, kept, limits, &mut keys[places..]) {
         return Turn::Left;
     }
     Turn::Enter(child)

@@ -1,5 +1,4 @@
 -- The symbol shifted past the node's bits has none of them.
-use borrow.Author.Rules.{rules}
 use native.Mathlib.Omega.{arith}
 use lib.Bits.{or_shifted}
 use lib.Pow.{shl_exact}
