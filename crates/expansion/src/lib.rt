@@ -39,9 +39,9 @@ fn base_of(node: Node, kept: Kept, limits: &[u64]) -> u64
 
 impl Vector<'_> {
     // The best label's symbol at the stream of a node's children.
-    fn own_symbol(&self, node: Node, label: u32) -> usize
-        requires { (0 < node.level) × (node.level ≤ self.now.task.streams) }
-        ensures { (result ≡ symbol_of self.now.task.streams self.now.task.width label (node.level - 1)) × (result < 2 ^ self.now.task.width) }
+    fn own_symbol(self, node: Node, label: u32) -> usize
+        requires { (0 < node.level) × (node.level ≤ self.task.streams) }
+        ensures { (result ≡ symbol_of self.entry.task.streams self.entry.task.width label (node.level - 1)) × (result < 2 ^ self.entry.task.width) }
     {
         let after = (self.task.streams - node.level) * self.task.width;
         metric::symbol_at(label, self.task.width, after)
@@ -50,9 +50,9 @@ impl Vector<'_> {
     // May a child of a node pass? `left` is what remains of y in the row of the children. The distances are asked first, and of a parent of
     // leaves, where there are prior costs, the parts: of other nodes that would cost more than it saves. The entries are written out at each
     // call: with a name of their own they would be made ready at every node.
-    fn may_pass(&self, node: Node, kept: Kept, left: Complex, limits: &[u64]) -> bool
-        requires { OpenAsked self.now.task self.now.numbers.now node kept.best left.re left.im limits.now }
-        ensures { result ≡ may_pass_at self.now.task.streams self.now.task.width self.now.numbers.now self.now.tables.now node
+    fn may_pass(self, node: Node, kept: Kept, left: Complex, limits: &[u64]) -> bool
+        requires { OpenAsked self.task self.numbers.now node kept.best left.re left.im limits.now }
+        ensures { result ≡ may_pass_at self.entry.task.streams self.entry.task.width self.entry.numbers.now self.entry.tables.now node
             kept.label kept.best left.re left.im limits.now }
     {
         let row = node.level - 1;
@@ -87,9 +87,9 @@ impl Vector<'_> {
     }
 
     // What remains of y in the row of a node's children.
-    fn remainder(&self, node: Node) -> Complex
-        requires { NodeIn self.now.task.streams self.now.task.width self.now.task.clip self.now.numbers.now node × (0 < node.level) }
-        ensures { Remains self.now.task.streams self.now.task.width self.now.numbers.now node result.re result.im }
+    fn remainder(self, node: Node) -> Complex
+        requires { NodeIn self.task.streams self.task.width self.task.clip self.numbers.now node × (0 < node.level) }
+        ensures { Remains self.entry.task.streams self.entry.task.width self.entry.numbers.now node result.re result.im }
     {
         metric::remainder(
             self.points,
@@ -103,10 +103,10 @@ impl Vector<'_> {
 
     // The keys of all children of a node are filled in, where `left` remains of y in their row.
     #[inline(always)]
-    fn fill_by(&self, node: Node, left: Complex, keys: &mut [u64])
-        requires { KeysAsked self.now.task self.now.numbers.now node keys.old
-            × Remains self.now.task.streams self.now.task.width self.now.numbers.now node left.re left.im }
-        ensures { keys.new ≡ keys_for self.now.task.streams self.now.task.width self.now.numbers.now self.now.tables.now node keys.old }
+    fn fill_by(self, node: Node, left: Complex, keys: &mut [u64])
+        requires { KeysAsked self.task self.numbers.now node keys.old
+            × Remains self.task.streams self.task.width self.numbers.now node left.re left.im }
+        ensures { keys.new ≡ keys_for self.entry.task.streams self.entry.task.width self.entry.numbers.now self.entry.tables.now node keys.old }
     {
         let mut axes = [0u64; AXES];
         axes::fill_parts(
@@ -121,17 +121,17 @@ impl Vector<'_> {
     }
 
     // The keys of all children of a node are filled in.
-    pub fn fill_keys(&self, node: Node, keys: &mut [u64])
-        requires { KeysAsked self.now.task self.now.numbers.now node keys.old }
-        ensures { keys.new ≡ keys_for self.now.task.streams self.now.task.width self.now.numbers.now self.now.tables.now node keys.old }
+    pub fn fill_keys(self, node: Node, keys: &mut [u64])
+        requires { KeysAsked self.task self.numbers.now node keys.old }
+        ensures { keys.new ≡ keys_for self.entry.task.streams self.entry.task.width self.entry.numbers.now self.entry.tables.now node keys.old }
     {
         self.fill_by(node, self.remainder(node), keys);
     }
 
     // Where a child of a node may pass the keys of all of them are filled in; else nothing of them is measured, and the answer is false.
-    pub fn expand(&self, node: Node, kept: Kept, limits: &[u64], keys: &mut [u64]) -> bool
-        requires { ExpandAsked self.now.task self.now.numbers.now node kept.best limits.now keys.old }
-        ensures { Told self.now.task.streams self.now.task.width self.now.numbers.now self.now.tables.now node kept.label kept.best
+    pub fn expand(self, node: Node, kept: Kept, limits: &[u64], keys: &mut [u64]) -> bool
+        requires { ExpandAsked self.task self.numbers.now node kept.best limits.now keys.old }
+        ensures { Told self.entry.task.streams self.entry.task.width self.entry.numbers.now self.entry.tables.now node kept.label kept.best
             limits.now keys.old keys.new result }
     {
         let left = self.remainder(node);

@@ -43,9 +43,9 @@ fn halted(kept: Kept) -> Kept
 }
 
 // A node after leaves were walked below it: the limits and the best label may be others.
-fn renew_node(vector: &Vector<'_>, node: Node, label: u32, limits: &[u64]) -> Node
-    requires { (node.level ≤ vector.now.task.streams) × (length limits.now ≡ limits_size) }
-    ensures { Renewal vector.now.task.streams vector.now.task.width label limits.now node result }
+fn renew_node(vector: Vector<'_>, node: Node, label: u32, limits: &[u64]) -> Node
+    requires { (node.level ≤ vector.task.streams) × (length limits.now ≡ limits_size) }
+    ensures { Renewal vector.entry.task.streams vector.entry.task.width label limits.now node result }
 {
     Node {
         chosen: limits::chosen(
@@ -61,21 +61,21 @@ fn renew_node(vector: &Vector<'_>, node: Node, label: u32, limits: &[u64]) -> No
 
 // The search below a node: its children, whose keys are filled in, are tried in order, each cut, counted, taken as a leaf or searched, until
 // they end. The keys of the levels below stand behind them.
-fn walk(vector: &Vector<'_>, node: Node, kept: Kept, minima: &mut [u64], keys: &mut [u64]) -> Kept
-    requires asked { NodeAsked vector.now.task.streams vector.now.task.width vector.now.task.clip vector.now.numbers.now node
+fn walk(vector: Vector<'_>, node: Node, kept: Kept, minima: &mut [u64], keys: &mut [u64]) -> Kept
+    requires asked { NodeAsked vector.task.streams vector.task.width vector.task.clip vector.numbers.now node
         (taken_in kept.label kept.best minima.old) (limits_of minima.old) keys.old }
     requires inner { 0 < node.level }
     requires running { kept.stopped ≡ false }
     requires whole { length minima.old ≡ minima_size }
-    requires filled { Filled vector.now.task.streams vector.now.task.width vector.now.numbers.now node keys.old }
-    requires parts { BestParts (vector_for vector.now.task vector.now.numbers.now) kept }
+    requires filled { Filled vector.task.streams vector.task.width vector.numbers.now node keys.old }
+    requires parts { BestParts (vector_for vector.task vector.numbers.now) kept }
     ensures found { kept_of result.count result.stopped (taken_in result.label result.best minima.new)
-        ≡ below (vector_for vector.now.task vector.now.numbers.now) vector.now.task.allowance node.level node.bits node.partial
+        ≡ below (vector_for vector.entry.task vector.entry.numbers.now) vector.entry.task.allowance node.level node.bits node.partial
         (kept_of kept.count false (taken_in kept.label kept.best minima.old)) }
-    ensures limited { Limited (vector_for vector.now.task vector.now.numbers.now) (taken_in result.label result.best minima.new)
+    ensures limited { Limited (vector_for vector.entry.task vector.entry.numbers.now) (taken_in result.label result.best minima.new)
         (limits_of minima.new) }
     ensures whole { length minima.new ≡ minima_size }
-    ensures parts { BestParts (vector_for vector.now.task vector.now.numbers.now) result }
+    ensures parts { BestParts (vector_for vector.entry.task vector.entry.numbers.now) result }
 {
     let places = turn::key_places(vector.task.width);
     let n: usize = 1 << vector.task.width;
@@ -110,18 +110,18 @@ fn walk(vector: &Vector<'_>, node: Node, kept: Kept, minima: &mut [u64], keys: &
 
 // The search below the root. Before the first leaf nothing is cut, so the keys of its children are filled in at once; and `expand` has one
 // caller, which the compiler then makes it part of.
-fn begin(vector: &Vector<'_>, root: Node, kept: Kept, minima: &mut [u64], keys: &mut [u64]) -> Kept
-    requires asked { NodeAsked vector.now.task.streams vector.now.task.width vector.now.task.clip vector.now.numbers.now root
+fn begin(vector: Vector<'_>, root: Node, kept: Kept, minima: &mut [u64], keys: &mut [u64]) -> Kept
+    requires asked { NodeAsked vector.task.streams vector.task.width vector.task.clip vector.numbers.now root
         (taken_in kept.label kept.best minima.old) (limits_of minima.old) keys.old }
     requires inner { 0 < root.level }
     requires running { kept.stopped ≡ false }
     requires whole { length minima.old ≡ minima_size }
-    requires parts { BestParts (vector_for vector.now.task vector.now.numbers.now) kept }
+    requires parts { BestParts (vector_for vector.task vector.numbers.now) kept }
     ensures found { kept_of result.count result.stopped (taken_in result.label result.best minima.new)
-        ≡ below (vector_for vector.now.task vector.now.numbers.now) vector.now.task.allowance root.level root.bits root.partial
+        ≡ below (vector_for vector.entry.task vector.entry.numbers.now) vector.entry.task.allowance root.level root.bits root.partial
         (kept_of kept.count false (taken_in kept.label kept.best minima.old)) }
     ensures whole { length minima.new ≡ minima_size }
-    ensures parts { BestParts (vector_for vector.now.task vector.now.numbers.now) result }
+    ensures parts { BestParts (vector_for vector.entry.task vector.entry.numbers.now) result }
 {
     vector.fill_keys(root, keys);
     walk(vector, root, kept, minima, keys)
@@ -185,7 +185,7 @@ pub fn search_vector(
         numbers,
         tables: &tables,
     };
-    let end = begin(&vector, root, start, &mut minima, keys);
+    let end = begin(vector, root, start, &mut minima, keys);
     let empty = empty_side(end.stopped, weak, task.clip);
     hypotheses::write_soft(task, empty, numbers, &minima, soft);
     Found {

@@ -46,16 +46,16 @@ fn with_symbol(symbol: usize, bits: usize, node: u32) -> u32
 // The next child, the first of the smallest keys: squared distance, prior cost and their sum, by that key. Its chosen bits are those of its own
 // symbol and its parent's.
 fn next_child(
-    vector: &Vector<'_>,
+    vector: Vector<'_>,
     node: Node,
     next: Row,
     label: u32,
     limits: &[u64],
     keys: &mut [u64],
 ) -> Node
-    requires { NextAsked vector.now.task.streams vector.now.task.width node limits.now keys.old
-        × LeastRow vector.now.task.width keys.old next.row next.key }
-    ensures { NextChild vector.now.task.streams vector.now.task.width node label limits.now keys.old keys.new result }
+    requires { NextAsked vector.task.streams vector.task.width node limits.now keys.old
+        × LeastRow vector.task.width keys.old next.row next.key }
+    ensures { NextChild vector.entry.task.streams vector.entry.task.width node label limits.now keys.old keys.new result }
 {
     let q = vector.task.width;
     let after = (vector.task.streams - node.level) * q;
@@ -81,14 +81,14 @@ fn next_child(
 // One turn over a node's children. They end where the node itself would not pass with the metric in the smallest key that is left; else the
 // child with that key is taken, cut or counted, and its own children are looked at; their keys stand behind the node's.
 pub fn advance(
-    vector: &Vector<'_>,
+    vector: Vector<'_>,
     node: Node,
     kept: Kept,
     limits: &[u64],
     keys: &mut [u64],
 ) -> Turn
-    requires { AdvanceAsked vector.now.task vector.now.numbers.now node kept limits.now keys.old }
-    ensures { Advanced vector.now.task vector.now.numbers.now node kept limits.now keys.old keys.new result }
+    requires { AdvanceAsked vector.task vector.numbers.now node kept limits.now keys.old }
+    ensures { Advanced vector.entry.task vector.entry.numbers.now node kept limits.now keys.old keys.new result }
 {
     let next = enumeration::least_row(vector.task.width, keys);
     let least = next.key / COST_ROOM;

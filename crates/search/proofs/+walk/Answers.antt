@@ -15,7 +15,7 @@ use Rattle.search.proofs.+walk.Goals.{in-Left, in-Leaf, in-Enter+else-k, in-Cut}
 pub loop-tried-init : goal.loop-tried-init
 loop-tried-init t c =
     let w = c.requires.asked in
-    let v = c.args.vector.now in
+    let v = c.args.vector in
     record {
       sized = one_shifted v.task.width (omega (arith, v.asked.vector.bits));
       whole = c.requires.whole;
@@ -27,7 +27,7 @@ loop-tried-init t c =
 
 pub advance-requires : goal.advance-requires
 advance-requires t c =
-    let v = c.args.vector.now in
+    let v = c.args.vector in
     let h = c.loop-tried.invariant.state in
     let more : c.loop-tried.tried < 2 ^ v.task.width = omega arith in
     rw (limits_part c.loop-tried.minima) (record {
@@ -40,14 +40,14 @@ advance-requires t c =
 
 pub returns-in-Ended-clause-found : goal.returns-in-Ended-clause-found
 returns-in-Ended-clause-found t c =
-    let v = c.args.vector.now in
+    let v = c.args.vector in
     let h = c.loop-tried.invariant.state in
     let more : c.loop-tried.tried < 2 ^ v.task.width = omega arith in
     ended v.asked h more (rw (limits_part c.loop-tried.minima) at c.in-Ended.ensures)
 
 pub returns-in-Stop-clause-found : goal.returns-in-Stop-clause-found
 returns-in-Stop-clause-found t c =
-    let v = c.args.vector.now in
+    let v = c.args.vector in
     let h = c.loop-tried.invariant.state in
     let more : c.loop-tried.tried < 2 ^ v.task.width = omega arith in
     let r = rw (limits_part c.loop-tried.minima) at c.in-Stop.ensures in
@@ -55,7 +55,7 @@ returns-in-Stop-clause-found t c =
 
 pub take-k-requires : goal.take-k-requires
 take-k-requires t c =
-    let v = c.args.vector.now in
+    let v = c.args.vector in
     let h = c.loop-tried.invariant.state in
     let more : c.loop-tried.tried < 2 ^ v.task.width = omega arith in
     let r = rw (limits_part c.loop-tried.minima) at c.in-Leaf.ensures in
@@ -72,7 +72,7 @@ take-k-requires t c =
 
 pub walk-k-requires : goal.walk-k-requires
 walk-k-requires t c =
-    let v = c.args.vector.now in
+    let v = c.args.vector in
     let h = c.loop-tried.invariant.state in
     let more : c.loop-tried.tried < 2 ^ v.task.width = omega arith in
     let r = rw (limits_part c.loop-tried.minima) at c.in-Enter.ensures in
@@ -90,7 +90,7 @@ walk-k-requires t c =
 
 pub returns-then-k-clause-found : goal.returns-then-k-clause-found
 returns-then-k-clause-found t c =
-    let v = c.args.vector.now in
+    let v = c.args.vector in
     let h = c.loop-tried.invariant.state in
     let more : c.loop-tried.tried < 2 ^ v.task.width = omega arith in
     let r = rw (limits_part c.loop-tried.minima) at c.in-Enter.ensures in
@@ -98,7 +98,7 @@ returns-then-k-clause-found t c =
 
 pub loop-tried-preserved : goal.loop-tried-preserved
 loop-tried-preserved t c =
-    let v = c.args.vector.now in
+    let v = c.args.vector in
     let l = c.loop-tried in
     let i = l.invariant in
     let h = i.state in
@@ -158,4 +158,4 @@ loop-tried-preserved t c =
     ]
 
 pub returns-clause-found : goal.returns-clause-found
-returns-clause-found t c = done c.args.vector.now.asked c.loop-tried.invariant.state (omega arith)
+returns-clause-found t c = done c.args.vector.asked c.loop-tried.invariant.state (omega arith)

@@ -12,7 +12,7 @@ returns-then-not-passes c = rw (← c.least_row-next.ensures.least) (sym c.if-no
 -- The child's children are looked at behind the node's keys
 pub returns-then-not-expand : goal.returns-then-not-expand
 returns-then-not-expand c =
-    let v = c.args.vector.now in
+    let v = c.args.vector in
     let child = c.next_child-child.ensures in
     let places = c.key_places-places.ensures in
     rw places
@@ -21,7 +21,7 @@ returns-then-not-expand c =
 
 pub returns : goal.returns
 returns c =
-    let v = c.args.vector.now in
+    let v = c.args.vector in
     let child = c.next_child-child.ensures in
     let places = c.key_places-places.ensures in
     let r =

@@ -30,7 +30,7 @@ picked m q n label limits keys after s own key inner t eo ek bits wide eb ew =
 
 pub with_symbol-requires : goal.with_symbol-requires
 with_symbol-requires c =
-    let v = c.args.vector.now in
+    let v = c.args.vector in
     let symbol = symbol_least c.args.keys.now v.task.width in (
       omega (arith, c.take-symbol.ensures.0, symbol, pow_mono v.asked.vector.bits),
       rest_few c.args.node.level v.asked.vector,
@@ -44,7 +44,7 @@ overflow_sub-result c = rw c.requires.1.least c.requires.0.within
 
 pub stream_reach-requires : goal.stream_reach-requires
 stream_reach-requires c =
-    let v = c.args.vector.now in
+    let v = c.args.vector in
     let q = v.task.width in (
       v.asked.vector.bits,
       omega (arith, c.requires.0.inner, c.requires.0.inside, v.asked.vector.streams),

@@ -13,14 +13,14 @@ use Rattle.expansion.proofs.Vector.fill_by.Goals as goal
 
 pub fill_parts-requires : goal.fill_parts-requires
 fill_parts-requires c =
-    let v = c.args.self.now in
+    let v = c.args.self in
     let k = c.requires.0 in
     let r = c.requires.1 in
     (v.asked.vector, v.tabled, row_inside v.asked k.node k.inner, r.low_re, r.low_im, refl, zeros_small (2 * span))
 
 pub fill-requires : goal.fill-requires
 fill-requires c =
-    let v = c.args.self.now in
+    let v = c.args.self in
     let k = c.requires.0 in
     let w = rw (← c.fill_parts.ensures) at (measured v.asked k.node k.inner v.tabled c.requires.1) in
     (v.asked.vector.bits, partial_under v.asked k.node, w.size, w.small, room_for c.args.node.level v.task.width k.inner _ k.room)
@@ -28,7 +28,7 @@ fill-requires c =
 pub returns : goal.returns
 unfolding keys_for
 returns c =
-    let v = c.args.self.now in
+    let v = c.args.self in
     let n = c.args.node in
     c.fill.ensures
     ∙ ap (λ (l : List ℕ). keys_in v.task.width (n.partial * cost_room) l c.args.keys.now)
