@@ -81,9 +81,7 @@ fn walk(vector: Vector<'_>, node: Node, kept: Kept, minima: &mut [u64], keys: &m
     let n: usize = 1 << vector.task.width;
     let mut k = kept;
     let mut parent = node;
-    let mut tried = 0;
-    // Not `<`: the compiler would turn that into a shift at every turn.
-    while tried != n {
+    for _tried in 0..n {
         match turn::advance(vector, parent, k, &minima[hypotheses::LIMITS..], keys) {
             Turn::Ended => return k,
             Turn::Stop => return halted(k),
@@ -103,7 +101,6 @@ fn walk(vector: Vector<'_>, node: Node, kept: Kept, minima: &mut [u64], keys: &m
             }
             Turn::Cut => {}
         }
-        tried += 1;
     }
     k
 }

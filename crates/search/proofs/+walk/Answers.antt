@@ -1,5 +1,7 @@
 -- Each turn over the node's children is one step of the search below the node, as the turn's answer says.
-use Rattle.std.proofs.Common.{◌∙◌, refl, ap, arith, ◌-◌, ◌^◌, ◌<◌, length}
+use Rattle.std.proofs.Common.{◌∙◌, refl, ap, arith, ℕ, List, ◌-◌, ◌*◌, ◌%◌, ◌^◌, ◌<◌, length}
+use Rattle.std.proofs.Math.IntN.{ℤ}
+use Rattle.hypotheses.specs.Limits.{SearchAsked}
 use borrow.Rule.Slice.PartMut.{same_len_mid}
 use Rattle.metric.proofs.Shifts.{one_shifted}
 use Rattle.search_spec.specs.Program.{Kept}
@@ -12,16 +14,18 @@ use Rattle.search.proofs.Best.{best_counted, leaf_cost, best_after_lem}
 use Rattle.search.proofs.+walk.Goals as goal
 use Rattle.search.proofs.+walk.Goals.{in-Left, in-Leaf, in-Enter+else-k, in-Cut}
 
+-- A turn of the loop has a child to try
+in_loop : {m q clip : ℕ} {numbers : List ℤ} → SearchAsked m q clip numbers → {i : ℕ} → i < 1 * 2 ^ q % 2 ^ 64 → i < 2 ^ q
+in_loop {m} {q} asked h = omega (arith, h, one_shifted q (omega (arith, asked.vector.bits)))
+
 pub loop-tried-init : goal.loop-tried-init
 loop-tried-init t c =
     let w = c.requires.asked in
     let v = c.args.vector in
     record {
-      sized = one_shifted v.task.width (omega (arith, v.asked.vector.bits));
       whole = c.requires.whole;
       same = refl;
       state = start v.asked w.node c.requires.inner _ _ w.lowest w.limited w.opposed _ _ w.room c.requires.filled _ _ c.requires.running;
-      inside = omega arith;
       parts = c.requires.parts;
     }
 
@@ -29,7 +33,7 @@ pub advance-requires : goal.advance-requires
 advance-requires t c =
     let v = c.args.vector in
     let h = c.loop-tried.invariant.state in
-    let more : c.loop-tried.tried < 2 ^ v.task.width = omega arith in
+    let more = in_loop v.asked c.loop-tried-test.true in
     rw (limits_part c.loop-tried.minima) (record {
       child = child_in_lem v.asked h more;
       limited = limits_asked v.asked h.node _ _ h.limited;
@@ -42,14 +46,14 @@ pub returns-in-Ended-clause-found : goal.returns-in-Ended-clause-found
 returns-in-Ended-clause-found t c =
     let v = c.args.vector in
     let h = c.loop-tried.invariant.state in
-    let more : c.loop-tried.tried < 2 ^ v.task.width = omega arith in
+    let more = in_loop v.asked c.loop-tried-test.true in
     ended v.asked h more (rw (limits_part c.loop-tried.minima) at c.in-Ended.ensures)
 
 pub returns-in-Stop-clause-found : goal.returns-in-Stop-clause-found
 returns-in-Stop-clause-found t c =
     let v = c.args.vector in
     let h = c.loop-tried.invariant.state in
-    let more : c.loop-tried.tried < 2 ^ v.task.width = omega arith in
+    let more = in_loop v.asked c.loop-tried-test.true in
     let r = rw (limits_part c.loop-tried.minima) at c.in-Stop.ensures in
     rw c.halted.ensures (halts v.asked h more r.0 r.1)
 
@@ -57,7 +61,7 @@ pub take-k-requires : goal.take-k-requires
 take-k-requires t c =
     let v = c.args.vector in
     let h = c.loop-tried.invariant.state in
-    let more : c.loop-tried.tried < 2 ^ v.task.width = omega arith in
+    let more = in_loop v.asked c.loop-tried-test.true in
     let r = rw (limits_part c.loop-tried.minima) at c.in-Leaf.ensures in
     let child = child_in_lem v.asked h more in
     rw (r.1, c.counted.ensures) (
@@ -74,7 +78,7 @@ pub walk-k-requires : goal.walk-k-requires
 walk-k-requires t c =
     let v = c.args.vector in
     let h = c.loop-tried.invariant.state in
-    let more : c.loop-tried.tried < 2 ^ v.task.width = omega arith in
+    let more = in_loop v.asked c.loop-tried-test.true in
     let r = rw (limits_part c.loop-tried.minima) at c.in-Enter.ensures in
     let e = c.counted-in-Enter.ensures in
     let placed = c.key_places-places.ensures in (
@@ -92,7 +96,7 @@ pub returns-then-k-clause-found : goal.returns-then-k-clause-found
 returns-then-k-clause-found t c =
     let v = c.args.vector in
     let h = c.loop-tried.invariant.state in
-    let more : c.loop-tried.tried < 2 ^ v.task.width = omega arith in
+    let more = in_loop v.asked c.loop-tried-test.true in
     let r = rw (limits_part c.loop-tried.minima) at c.in-Enter.ensures in
     stops v.asked h more r.0.took r.0.passes r.0.more _ (rw (r.1, c.counted-in-Enter.ensures) at c.walk-k.ensures.found) c.if-k.true
 
@@ -102,16 +106,14 @@ loop-tried-preserved t c =
     let l = c.loop-tried in
     let i = l.invariant in
     let h = i.state in
-    let more : l.tried < 2 ^ v.task.width = omega arith in
+    let more = in_loop v.asked c.loop-tried-test.true in
     elim c.match-advance.branch [
       | in-Left w ↦
           let r = rw (limits_part l.minima) at w.in-Left.ensures in
           rw (w.minima-is, w.keys-is, w.k-is, w.parent-is, w.counted-k.ensures) (record {
-            sized = i.sized;
             whole = i.whole;
             same = i.same;
             state = past v.asked h more r.0.took r.0.passes r.0.more r.1 r.2;
-            inside = omega (arith, more, i.sized);
             parts = best_counted _ _ i.parts;
           })
       | in-Leaf w ↦
@@ -121,12 +123,10 @@ loop-tried-preserved t c =
           let is = rw (r.1, e) at w.take-k.ensures.0 in
           let runs = ap (λ (x : Kept). x.stopped) is ∙ h.running in
           rw (w.minima-is, w.keys-is, w.k-is, w.parent-is) (record {
-            sized = i.sized;
             whole = w.take-k.ensures.3;
             same = w.renew_node-parent.ensures.level_is ∙ i.same;
             state = onward_here v.asked h more r.0.took r.0.passes r.0.more _ (is ∙ leaf_noted v.asked child _ _ r.2 _ _ h.running) runs
                 w.take-k.ensures.2 _ (rw (limits_part w.take-k.new.minima) at w.renew_node-parent.ensures);
-            inside = omega (arith, more, i.sized);
             parts = best_after_lem _ child.parts r.2 (rw (r.1, e) at w.take-k.ensures.4) _ _ is (best_counted _ _ i.parts);
           })
       | in-Enter+else-k w ↦
@@ -136,23 +136,19 @@ loop-tried-preserved t c =
           let q = v.task.width in
           let many = rw placed at w.walk-k.auto.keys in
           rw (w.minima-is, w.keys-is, w.k-is, w.parent-is, placed) (record {
-            sized = i.sized;
             whole = w.walk-k.ensures.whole;
             same = w.renew_node-parent-in-Enter.ensures.level_is ∙ i.same;
             state = onward v.asked h more r.0.took r.0.passes r.0.more _ (rw (r.1, w.counted-in-Enter.ensures) at w.walk-k.ensures.found) w.if-k.false
                 w.walk-k.ensures.limited _ (same_len_mid (key_count q) (length after - key_count q) after w.walk-k.new.keys many) _
                 (rw (limits_part w.walk-k.new.minima) at w.renew_node-parent-in-Enter.ensures);
-            inside = omega (arith, more, i.sized);
             parts = w.walk-k.ensures.parts;
           })
       | in-Cut w ↦
           let r = rw (limits_part l.minima) at w.in-Cut.ensures in
           rw (w.minima-is, w.keys-is, w.k-is, w.parent-is) (record {
-            sized = i.sized;
             whole = i.whole;
             same = i.same;
             state = cut v.asked h more r.0 r.1;
-            inside = omega (arith, more, i.sized);
             parts = i.parts;
           })
     ]

@@ -15,16 +15,11 @@ invariant-loop-tried l =
     let t = l.vector.task in
     let v = vector_for t l.vector.numbers.now in
     record {
-      sized : l.n ≡ 2 ^ t.width;
       whole : length l.minima ≡ minima_size;
       same : l.parent.level ≡ l.fn.node.level;
       state : Searching t.streams t.width t.clip l.vector.numbers.now t.allowance l.parent
           (below v t.allowance l.fn.node.level l.fn.node.bits l.fn.node.partial
-          (kept_of l.fn.kept.count false (taken_in l.fn.kept.label l.fn.kept.best l.fn.minima))) l.tried l.keys
+          (kept_of l.fn.kept.count false (taken_in l.fn.kept.label l.fn.kept.best l.fn.minima))) l._tried l.keys
           (kept_of l.k.count l.k.stopped (taken_in l.k.label l.k.best l.minima)) (limits_of l.minima);
-      inside : l.tried ≤ l.n;
       parts : BestParts v l.k;
     }
-
-abbrev pub decreases-loop-tried : goal.decreases-loop-tried
-decreases-loop-tried l = l.n - l.tried
