@@ -5,14 +5,16 @@ use mathlib.Core.Bool.{Bool, true, false}
 use mathlib.Core.List.{List, ◌++◌}
 use native.Mathlib.Nat.{le_of_lt, le_trans}
 use native.Mathlib.Omega.{arith}
-use lib.ListN.{length, get_or, set, take, drop, take-append-drop}
+use lib.ListN.{length, get_or, set, take, drop, take-append-drop, length-drop}
+use lib.Seq.{take_all}
+use Rattle.limits.specs.Reach.{limits_size}
 use lib.IntN.{ℤ}
 use Rattle.model.specs.Metric.{Vector}
 use Rattle.block.proofs.Places.{rows_count}
-use Rattle.model.specs.Block.{most_width}
+use Rattle.model.specs.Block.{most_width, most_bits}
 use Rattle.metric.specs.Keys.{metric_in}
 use Rattle.search_spec.specs.Arrays.{least_first}
-use Rattle.search_spec.specs.Program.{above, tried, Taken, Kept, kept_of, passing, noted, chosen, partial_of, key_of, child_in, below, rest_of}
+use Rattle.search_spec.specs.Program.{above, tried, Taken, Kept, kept_of, limits_of, passing, noted, chosen, partial_of, key_of, child_in, below, rest_of}
 use Rattle.search_spec.proofs.Arrays.{Same, Held, held_least, held_set, held_same, same_part}
 use Rattle.search_spec.proofs.Bounds.{kept_falls, symbol_inside, partial_under as kid_Under, keys_held, child_by}
 use Rattle.search_spec.proofs.Answer.{symbol_cheap}
@@ -22,7 +24,7 @@ use Rattle.search_spec.proofs.Early.{rest_beyond, below_shut}
 use Rattle.enumeration.specs.Rows.{key_count, RowLeast, Took}
 use Rattle.enumeration.proofs.Rows.{row_least_front}
 use Rattle.enumeration.proofs.Taking.{took_same}
-use Rattle.hypotheses.specs.Limits.{vector_at, SearchAsked, LimitsAsked, Limited}
+use Rattle.hypotheses.specs.Limits.{vector_at, SearchAsked, LimitsAsked, Limited, minima_size}
 use Rattle.turn.specs.Limits.{passes_at, opposite}
 use Rattle.search.specs.Nodes.{NodeAsked, Renewal}
 use Rattle.turn.specs.Turn.{behind, NextAsked, next_of}
@@ -48,6 +50,10 @@ pub record Searching (m q clip : ℕ) (numbers : List ℤ) (allowance : ℕ) (n 
   pub left : whole ≡ rest_of (vector_at m q clip numbers) allowance (n.level - 1) n.bits (2 ^ q - turns) keys k
   pub limited : Limited (vector_at m q clip numbers) k.taken limits
   pub opposed : n.chosen ≡ opposite m q limits k.taken.label n.level n.bits
+
+-- The limits are lent behind the minima
+pub limits_lent : (minima : List ℕ) → length minima ≡ minima_size → take limits_size (drop (2 * most_bits) minima) ≡ limits_of minima
+limits_lent minima whole = take_all limits_size (drop (2 * most_bits) minima) (omega (arith, length-drop (2 * most_bits) minima))
 
 -- A node of a vector that a search may be asked for
 module _ {m q clip : ℕ} {numbers : List ℤ} (a : SearchAsked m q clip numbers) {n : Node} (w : NodeIn m q clip numbers n) where

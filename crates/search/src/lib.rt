@@ -61,12 +61,11 @@ fn renew_node(vector: Vector<'_>, node: Node, label: u32, limits: &[u64]) -> Nod
 
 // The search below a node: its children, whose keys are filled in, are tried in order, each cut, counted, taken as a leaf or searched, until
 // they end. The keys of the levels below stand behind them.
-fn walk(vector: Vector<'_>, node: Node, kept: Kept, minima: &mut [u64], keys: &mut [u64]) -> Kept
+fn walk(vector: Vector<'_>, node: Node, kept: Kept, minima: &mut [u64; hypotheses::MINIMA], keys: &mut [u64]) -> Kept
     requires asked { NodeAsked vector.task.streams vector.task.width vector.task.clip vector.numbers.now node
         (taken_in kept.label kept.best minima.old) (limits_of minima.old) keys.old }
     requires inner { 0 < node.level }
     requires running { kept.stopped ≡ false }
-    requires whole { length minima.old ≡ minima_size }
     requires filled { Filled vector.task.streams vector.task.width vector.numbers.now node keys.old }
     requires parts { BestParts (vector_for vector.task vector.numbers.now) kept }
     ensures found { kept_of result.count result.stopped (taken_in result.label result.best minima.new)
@@ -74,7 +73,6 @@ fn walk(vector: Vector<'_>, node: Node, kept: Kept, minima: &mut [u64], keys: &m
         (kept_of kept.count false (taken_in kept.label kept.best minima.old)) }
     ensures limited { Limited (vector_for vector.entry.task vector.entry.numbers.now) (taken_in result.label result.best minima.new)
         (limits_of minima.new) }
-    ensures whole { length minima.new ≡ minima_size }
     ensures parts { BestParts (vector_for vector.entry.task vector.entry.numbers.now) result }
 {
     let places = turn::key_places(vector.task.width);
@@ -107,17 +105,15 @@ fn walk(vector: Vector<'_>, node: Node, kept: Kept, minima: &mut [u64], keys: &m
 
 // The search below the root. Before the first leaf nothing is cut, so the keys of its children are filled in at once; and `expand` has one
 // caller, which the compiler then makes it part of.
-fn begin(vector: Vector<'_>, root: Node, kept: Kept, minima: &mut [u64], keys: &mut [u64]) -> Kept
+fn begin(vector: Vector<'_>, root: Node, kept: Kept, minima: &mut [u64; hypotheses::MINIMA], keys: &mut [u64]) -> Kept
     requires asked { NodeAsked vector.task.streams vector.task.width vector.task.clip vector.numbers.now root
         (taken_in kept.label kept.best minima.old) (limits_of minima.old) keys.old }
     requires inner { 0 < root.level }
     requires running { kept.stopped ≡ false }
-    requires whole { length minima.old ≡ minima_size }
     requires parts { BestParts (vector_for vector.task vector.numbers.now) kept }
     ensures found { kept_of result.count result.stopped (taken_in result.label result.best minima.new)
         ≡ below (vector_for vector.entry.task vector.entry.numbers.now) vector.entry.task.allowance root.level root.bits root.partial
         (kept_of kept.count false (taken_in kept.label kept.best minima.old)) }
-    ensures whole { length minima.new ≡ minima_size }
     ensures parts { BestParts (vector_for vector.entry.task vector.entry.numbers.now) result }
 {
     vector.fill_keys(root, keys);

@@ -5,11 +5,10 @@ use Rattle.hypotheses.specs.Limits.{SearchAsked}
 use borrow.Rule.Slice.PartMut.{same_len_mid}
 use Rattle.metric.proofs.Shifts.{one_shifted}
 use Rattle.search_spec.specs.Program.{Kept}
-use Rattle.search_spec.proofs.Minima.{limits_part}
 use Rattle.enumeration.specs.Rows.{key_count}
 use Rattle.tree.specs.declared.Node.{Node}
 use Rattle.expansion.proofs.Nodes.{partial_under, leaf_placed}
-use Rattle.search.proofs.Search.{start, done, ended, halts, cut, past, stops, onward, onward_here, limits_asked, next_asked, child_asked, child_in_lem, leaf_noted}
+use Rattle.search.proofs.Search.{limits_lent, start, done, ended, halts, cut, past, stops, onward, onward_here, limits_asked, next_asked, child_asked, child_in_lem, leaf_noted}
 use Rattle.search.proofs.Best.{best_counted, leaf_cost, best_after_lem}
 use Rattle.search.proofs.+walk.Goals as goal
 use Rattle.search.proofs.+walk.Goals.{in-Left, in-Leaf, in-Enter+else-k, in-Cut}
@@ -23,7 +22,7 @@ loop-tried-init t c =
     let w = c.requires.asked in
     let v = c.args.vector in
     record {
-      whole = c.requires.whole;
+      whole = omega arith;
       same = refl;
       state = start v.asked w.node c.requires.inner _ _ w.lowest w.limited w.opposed _ _ w.room c.requires.filled _ _ c.requires.running;
       parts = c.requires.parts;
@@ -34,7 +33,7 @@ advance-requires t c =
     let v = c.args.vector in
     let h = c.loop-tried.invariant.state in
     let more = in_loop v.asked c.loop-tried-test.true in
-    rw (limits_part c.loop-tried.minima) (record {
+    rw (limits_lent c.loop-tried.minima c.loop-tried.invariant.whole) (record {
       child = child_in_lem v.asked h more;
       limited = limits_asked v.asked h.node _ _ h.limited;
       next = next_asked v.asked h more;
@@ -47,14 +46,14 @@ returns-in-Ended-clause-found t c =
     let v = c.args.vector in
     let h = c.loop-tried.invariant.state in
     let more = in_loop v.asked c.loop-tried-test.true in
-    ended v.asked h more (rw (limits_part c.loop-tried.minima) at c.in-Ended.ensures)
+    ended v.asked h more (rw (limits_lent c.loop-tried.minima c.loop-tried.invariant.whole) at c.in-Ended.ensures)
 
 pub returns-in-Stop-clause-found : goal.returns-in-Stop-clause-found
 returns-in-Stop-clause-found t c =
     let v = c.args.vector in
     let h = c.loop-tried.invariant.state in
     let more = in_loop v.asked c.loop-tried-test.true in
-    let r = rw (limits_part c.loop-tried.minima) at c.in-Stop.ensures in
+    let r = rw (limits_lent c.loop-tried.minima c.loop-tried.invariant.whole) at c.in-Stop.ensures in
     rw c.halted.ensures (halts v.asked h more r.0 r.1)
 
 pub take-k-requires : goal.take-k-requires
@@ -62,7 +61,7 @@ take-k-requires t c =
     let v = c.args.vector in
     let h = c.loop-tried.invariant.state in
     let more = in_loop v.asked c.loop-tried-test.true in
-    let r = rw (limits_part c.loop-tried.minima) at c.in-Leaf.ensures in
+    let r = rw (limits_lent c.loop-tried.minima c.loop-tried.invariant.whole) at c.in-Leaf.ensures in
     let child = child_in_lem v.asked h more in
     rw (r.1, c.counted.ensures) (
       v.asked,
@@ -79,7 +78,7 @@ walk-k-requires t c =
     let v = c.args.vector in
     let h = c.loop-tried.invariant.state in
     let more = in_loop v.asked c.loop-tried-test.true in
-    let r = rw (limits_part c.loop-tried.minima) at c.in-Enter.ensures in
+    let r = rw (limits_lent c.loop-tried.minima c.loop-tried.invariant.whole) at c.in-Enter.ensures in
     let e = c.counted-in-Enter.ensures in
     let placed = c.key_places-places.ensures in (
       omega (arith, c.decreases, c.loop-tried.invariant.same, h.inner, ap (λ (n : Node). n.level) r.1),
@@ -87,7 +86,7 @@ walk-k-requires t c =
         rw (r.1, e, placed) (child_asked v.asked h more r.0.took r.0.passes r.0.more),
         (
           rw r.1 r.2,
-          (rw e h.running, (c.loop-tried.invariant.whole, (rw (r.1, placed) r.3, rw e (best_counted _ _ c.loop-tried.invariant.parts)))),
+          (rw e h.running, (rw (r.1, placed) r.3, rw e (best_counted _ _ c.loop-tried.invariant.parts))),
         ),
       ),
     )
@@ -97,7 +96,7 @@ returns-then-k-clause-found t c =
     let v = c.args.vector in
     let h = c.loop-tried.invariant.state in
     let more = in_loop v.asked c.loop-tried-test.true in
-    let r = rw (limits_part c.loop-tried.minima) at c.in-Enter.ensures in
+    let r = rw (limits_lent c.loop-tried.minima c.loop-tried.invariant.whole) at c.in-Enter.ensures in
     stops v.asked h more r.0.took r.0.passes r.0.more _ (rw (r.1, c.counted-in-Enter.ensures) at c.walk-k.ensures.found) c.if-k.true
 
 pub loop-tried-preserved : goal.loop-tried-preserved
@@ -109,7 +108,7 @@ loop-tried-preserved t c =
     let more = in_loop v.asked c.loop-tried-test.true in
     elim c.match-advance.branch [
       | in-Left w ↦
-          let r = rw (limits_part l.minima) at w.in-Left.ensures in
+          let r = rw (limits_lent l.minima i.whole) at w.in-Left.ensures in
           rw (w.minima-is, w.keys-is, w.k-is, w.parent-is, w.counted-k.ensures) (record {
             whole = i.whole;
             same = i.same;
@@ -117,7 +116,7 @@ loop-tried-preserved t c =
             parts = best_counted _ _ i.parts;
           })
       | in-Leaf w ↦
-          let r = rw (limits_part l.minima) at w.in-Leaf.ensures in
+          let r = rw (limits_lent l.minima i.whole) at w.in-Leaf.ensures in
           let e = w.counted.ensures in
           let child = child_in_lem v.asked h more in
           let is = rw (r.1, e) at w.take-k.ensures.0 in
@@ -126,25 +125,25 @@ loop-tried-preserved t c =
             whole = w.take-k.ensures.3;
             same = w.renew_node-parent.ensures.level_is ∙ i.same;
             state = onward_here v.asked h more r.0.took r.0.passes r.0.more _ (is ∙ leaf_noted v.asked child _ _ r.2 _ _ h.running) runs
-                w.take-k.ensures.2 _ (rw (limits_part w.take-k.new.minima) at w.renew_node-parent.ensures);
+                w.take-k.ensures.2 _ (rw (limits_lent w.take-k.new.minima w.take-k.ensures.3) at w.renew_node-parent.ensures);
             parts = best_after_lem _ child.parts r.2 (rw (r.1, e) at w.take-k.ensures.4) _ _ is (best_counted _ _ i.parts);
           })
       | in-Enter+else-k w ↦
-          let r = rw (limits_part l.minima) at w.in-Enter.ensures in
+          let r = rw (limits_lent l.minima i.whole) at w.in-Enter.ensures in
           let placed = c.key_places-places.ensures in
           let after = c.advance.new.keys in
           let q = v.task.width in
           let many = rw placed at w.walk-k.auto.keys in
           rw (w.minima-is, w.keys-is, w.k-is, w.parent-is, placed) (record {
-            whole = w.walk-k.ensures.whole;
+            whole = w.walk-k.array_long;
             same = w.renew_node-parent-in-Enter.ensures.level_is ∙ i.same;
             state = onward v.asked h more r.0.took r.0.passes r.0.more _ (rw (r.1, w.counted-in-Enter.ensures) at w.walk-k.ensures.found) w.if-k.false
                 w.walk-k.ensures.limited _ (same_len_mid (key_count q) (length after - key_count q) after w.walk-k.new.keys many) _
-                (rw (limits_part w.walk-k.new.minima) at w.renew_node-parent-in-Enter.ensures);
+                (rw (limits_lent w.walk-k.new.minima w.walk-k.array_long) at w.renew_node-parent-in-Enter.ensures);
             parts = w.walk-k.ensures.parts;
           })
       | in-Cut w ↦
-          let r = rw (limits_part l.minima) at w.in-Cut.ensures in
+          let r = rw (limits_lent l.minima i.whole) at w.in-Cut.ensures in
           rw (w.minima-is, w.keys-is, w.k-is, w.parent-is) (record {
             whole = i.whole;
             same = i.same;
