@@ -1,3 +1,5 @@
+pub mod Lent
+pub mod Doubled
 pub mod Tables
 pub mod Costs
 pub mod Bridge

@@ -104,15 +104,13 @@ pub record AmplitudesAsked (points : List ℤ) (first step w : ℕ) : Type 0 whe
   pub room : (g : ℕ) → g < 2 ^ w → first + g * step < places
   pub each : (g : ℕ) → g < 2 ^ w → get_or points (first + g * step) (pos 0) ≡ amplitude (bits_of w g)
 
--- What pricing an axis's labels asks: the priors of its bits stand within the numbers, in their range
-pub record PriorsAsked (numbers : List ℤ) (from w : ℕ) : Type 0 where
-  pub bits : w ≤ axis_width
-  pub place : from < 2 ^ 16
-  pub room : from + w ≤ length numbers
-  pub range : Every (Within most_prior) (part numbers from w)
+-- What pricing an axis's labels asks: the priors of its bits are few, and in their range
+pub record PriorsAsked (priors : List ℤ) : Type 0 where
+  pub bits : length priors ≤ axis_width
+  pub range : Every (Within most_prior) priors
 
 -- What making an axis's entries asks
-pub record EntriesAsked (numbers : List ℤ) (from : ℕ) (diagonal : ℤ) (w at : ℕ) : Type 0 where
-  pub priors : PriorsAsked numbers from w
+pub record EntriesAsked (priors : List ℤ) (diagonal : ℤ) (w : ℕ) : Type 0 where
+  pub each : PriorsAsked priors
+  pub bits : length priors ≡ w
   pub entry : Within most_entry diagonal
-  pub place : at + 2 * span ≤ table_size

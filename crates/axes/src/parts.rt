@@ -2,12 +2,12 @@
 // vector's table; and what it adds to the keys of the node's children.
 ghost use Rattle.std.specs.Prelude.{◌≡◌, ◌+◌, ◌*◌, ◌<◌, ◌≤◌, ◌^◌, pos, nat_abs, ◌-ℤ◌, length};
 ghost use Rattle.metric.specs.Keys.{keyed};
-ghost use Rattle.metric.specs.Parts.{span, remainder_bound, filled_from, AllSmall};
+ghost use Rattle.metric.specs.Parts.{span, remainder_bound, filled, AllSmall};
 ghost use Rattle.metric.specs.Rows.{VectorAsked};
 ghost use Rattle.axes.specs.Tables.{key_part, parts_in, Tabled, AxisAsked};
 
-use super::{SPAN, TABLE};
-use metric::AXES;
+use super::{SPAN, TABLE, labels};
+use metric::{AXES, sized};
 use tree::{COST_ROOM, Complex, Task};
 
 // What an axis label adds to the increment, by its two entries of the table.
@@ -27,42 +27,23 @@ fn key_part(left: i64, product: i32, cost: i32) -> u64
     axis_part(left, product, cost) * COST_ROOM + behind
 }
 
-// What an axis's labels add to keys, in the array of both axes from a place on.
-fn fill_labels(
-    tables: &[i32; TABLE],
-    at: usize,
-    left: i64,
-    w: usize,
-    to: usize,
-    axes: &mut [u64; AXES],
-)
-    requires { AxisAsked tables.now at left w × (to ≤ span) }
-    ensures { axes.new ≡ filled_from to (key_part tables.now at left) (2 ^ w) axes.old }
+// What an axis's labels of w bits add to keys, by its entries of the table from a place on.
+// Not a part of the table: what is asked of an axis (AxisAsked) and what its entries give (key_part) name the table's places, as in bounding.
+fn fill_labels(tables: &[i32; TABLE], at: usize, left: i64, w: usize, parts: &mut [u64])
+    requires { AxisAsked tables.now at left w × (span ≤ length parts.old) }
+    ensures { parts.new ≡ filled (key_part tables.now at left) (2 ^ w) parts.old }
 {
-    let n: usize = 1 << w;
-    let mut g = 0;
-    while g < n {
-        axes[to + g] = key_part(left, tables[at + g], tables[at + SPAN + g]);
-        g += 1;
+    for g in 0..labels(w) {
+        parts[g] = key_part(left, tables[at + g], tables[at + SPAN + g]);
     }
 }
 
 // The same; an axis of 64-QAM has three bits, which the compiler is told here.
-fn fill_axis(
-    tables: &[i32; TABLE],
-    at: usize,
-    left: i64,
-    w: usize,
-    to: usize,
-    axes: &mut [u64; AXES],
-)
-    requires { AxisAsked tables.now at left w × (to ≤ span) }
-    ensures { axes.new ≡ filled_from to (key_part tables.now at left) (2 ^ w) axes.old }
+fn fill_axis(tables: &[i32; TABLE], at: usize, left: i64, w: usize, parts: &mut [u64])
+    requires { AxisAsked tables.now at left w × (span ≤ length parts.old) }
+    ensures { parts.new ≡ filled (key_part tables.now at left) (2 ^ w) parts.old }
 {
-    if w == 3 {
-        return fill_labels(tables, at, left, 3, to, axes);
-    }
-    fill_labels(tables, at, left, w, to, axes)
+    sized::<3, 3, _, _>(w, &mut |w| fill_labels(tables, at, left, w, parts))
 }
 
 // What the labels of both axes add to keys at a node, in one array: those of the real labels, then, a span later, those of the imaginary ones. `left` is what
@@ -83,6 +64,7 @@ pub fn fill_parts(
 {
     let q = task.width;
     let at = row * (4 * SPAN);
-    fill_axis(tables, at, left.re, q - q / 2, 0, axes);
-    fill_axis(tables, at + 2 * SPAN, left.im, q / 2, SPAN, axes);
+    let (real, imaginary) = axes.split_at_mut(SPAN);
+    fill_axis(tables, at, left.re, q - q / 2, real);
+    fill_axis(tables, at + 2 * SPAN, left.im, q / 2, imaginary);
 }

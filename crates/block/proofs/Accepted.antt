@@ -17,7 +17,7 @@ use Rattle.refusals.specs.Table.{allowed}
 use Rattle.block.specs.Reading.{own_count, weak_place, share_place, header_size, vector_runs, kinds_of, runs_of, part_kinds, vector_size, owned_size, kinds_of_vector, vector_kinds, count_at, layout_of, read_record}
 use Rattle.block.specs.Contents.{vector_start, owner_at, vector_numbers, vector_rows, block_of, header_kinds, record_kinds}
 use Rattle.refusals.specs.declared.Kind.TheVariants.{StreamCount, OwnerNumber}
-use Rattle.block.specs.declared.Read.TheVariants.{Ended}
+use Rattle.std.specs.Prelude.{Ok}
 use Rattle.block.specs.declared.Part.TheVariants.{Vector}
 use Rattle.block.specs.declared.Layout.{Layout}
 use Rattle.block.proofs.Ranges.{Plain, between_plain, allowed_width}
@@ -159,7 +159,7 @@ module _ (o : Layout) (numbers : List ℤ) (a : AllAllowed (record_kinds o numbe
         owners = every-up_from _ (owner_at o numbers) 0 (count_at 2 numbers) (λ k h. owner_ranged k (omega arith));
       }
 
-module _ (bytes : List ℕ) (at : ℕ) (e : (read_record bytes).read ≡ Ended at) where
+module _ (bytes : List ℕ) (at : ℕ) (e : (read_record bytes).read ≡ Ok at) where
   -- An accepted record has the header's numbers and those of N vectors
   pub accepted_count : let numbers = (read_record bytes).numbers in
       length numbers ≡ header_size (layout_of bytes) + count_at 2 numbers * owned_size (own_count (layout_of bytes)) (count_at 0 numbers) (count_at 1 numbers)

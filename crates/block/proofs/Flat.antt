@@ -8,14 +8,12 @@ use native.Mathlib.Omega.{arith}
 use lib.ListN.{length, take}
 use lib.Seq.{get_or-take}
 use lib.IntN.{ℤ, pos}
-use Rattle.block.specs.Reading.{opening, Parse, numbers_at, kinds_of, runs_of, starts_with, layout_of}
-use Rattle.block.specs.Reading.{limit_stage, vector_stage, stages, stages_at, read_record}
+use Rattle.block.specs.Reading.{opening, Parse, numbers_at, kinds_of, runs_of, starts_with, layout_of, limit_stage, vector_stage, stages, stages_at, read_record, Read}
 use Rattle.block.specs.Contents.{record_kinds}
 use Rattle.block.specs.Conditions.{called_for}
 use Rattle.refusals.specs.declared.Kind.{Kind}
 use Rattle.block.specs.declared.Layout.{Layout}
-use Rattle.block.specs.declared.Read.{Read}
-use Rattle.block.specs.declared.Read.TheVariants.{Ended, Refused}
+use Rattle.std.specs.Prelude.{Ok, Err}
 use Rattle.refusals.specs.declared.Refusal.TheVariants.{Opening}
 use Rattle.block.proofs.Parts.{AllAllowed, all_allowed}
 use Rattle.block.proofs.Stages.{ended_count, stages_read, stages_only, called_whole, called_whole_lem}
@@ -51,20 +49,20 @@ whole_kinds o zs =
 called_kinds : (o : Layout) (zs : List ℤ) → length zs ≡ length (called_for o zs) → called_for o zs ≡ record_kinds o zs
 called_kinds o zs e = called_whole_lem (stages o) 0 zs (omega arith) ∙ whole_kinds o zs
 
-module _ (bytes : List ℕ) (at : ℕ) (e : (read_record bytes).read ≡ Ended at) where
+module _ (bytes : List ℕ) (at : ℕ) (e : (read_record bytes).read ≡ Ok at) where
   -- An accepted record has its opening
   pub accepted_opens : starts_with (opening (layout_of bytes)) bytes ≡ true
   unfolding read_record
   accepted_opens = go (starts_with (opening (layout_of bytes)) bytes) e
     where
-      go : (b : Bool) → (cond b (stages_at (stages (layout_of bytes)) [] bytes 4) (record { numbers = []; read = Refused Opening })).read ≡ Ended at
+      go : (b : Bool) → (cond b (stages_at (stages (layout_of bytes)) [] bytes 4) (record { numbers = []; read = Err Opening })).read ≡ Ok at
           → b ≡ true
       go true f = refl
-      go false f = let z : ◌≡◌ {A = ℕ} 0 1 = cc in absurd (omega arith)
+      go false f = cc
 
   -- It is one reading of what its numbers call for, behind the opening
   pub accepted_called : let numbers = (read_record bytes).numbers in
-      numbers_at (called_for (layout_of bytes) numbers) bytes 4 ≡ record { numbers = numbers; read = Ended at }
+      numbers_at (called_for (layout_of bytes) numbers) bytes 4 ≡ record { numbers = numbers; read = Ok at }
   accepted_called = sym (called_reads bytes accepted_opens) ∙ λ j. record { numbers = (read_record bytes).numbers; read = e j }
 
   -- They are all that they call for
@@ -75,11 +73,11 @@ module _ (bytes : List ℕ) (at : ℕ) (e : (read_record bytes).read ≡ Ended a
 
   -- So it ends where the kinds of its numbers do
   accepted_kinds : let numbers = (read_record bytes).numbers in
-      numbers_at (record_kinds (layout_of bytes) numbers) bytes 4 ≡ record { numbers = numbers; read = Ended at }
+      numbers_at (record_kinds (layout_of bytes) numbers) bytes 4 ≡ record { numbers = numbers; read = Ok at }
   accepted_kinds =
       ap (λ (ks : List Kind). numbers_at ks bytes 4) (sym (called_kinds (layout_of bytes) (read_record bytes).numbers accepted_all)) ∙ accepted_called
 
-  pub accepted_ends : (numbers_at (record_kinds (layout_of bytes) (read_record bytes).numbers) bytes 4).read ≡ Ended at
+  pub accepted_ends : (numbers_at (record_kinds (layout_of bytes) (read_record bytes).numbers) bytes 4).read ≡ Ok at
   accepted_ends = ap (λ (p : Parse). p.read) accepted_kinds
 
   -- Each of its numbers is in the range of its kind

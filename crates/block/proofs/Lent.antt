@@ -14,10 +14,9 @@ use Rattle.model.specs.Soft.{up_from}
 use Rattle.model.specs.Block.{InRange, most_vectors}
 use Rattle.model.proofs.Lists.{map-up_from}
 use Rattle.block.specs.declared.Layout.{Layout}
-use Rattle.block.specs.Reading.{own_count, weak_place, share_place, header_size, vector_size, owned_size, count_at, layout_of, read_record, at_end, read_whole, Got, got, into, most_numbers}
+use Rattle.block.specs.Reading.{own_count, weak_place, share_place, header_size, vector_size, owned_size, count_at, layout_of, read_record, at_end, read_whole, Got, got, into, most_numbers, Read}
 use Rattle.block.specs.Contents.{rows_of, vector_start, owner_at, vector_numbers, vector_rows, block_of}
-use Rattle.block.specs.declared.Read.{Read}
-use Rattle.block.specs.declared.Read.TheVariants.{Ended, Refused}
+use Rattle.std.specs.Prelude.{Ok, Err}
 use Rattle.refusals.specs.declared.Refusal.TheVariants.{Trailing}
 use Rattle.block.proofs.Parts.{into_length, all_fit}
 use Rattle.block.proofs.Places.{vectors_count, owner_alike}
@@ -87,13 +86,13 @@ module _ (o : Layout) (numbers rest : List ℤ)
       rw (vector_same k l, header_same 0 (omega arith), header_same 1 (omega arith)) (p k l)
 
 -- A record that ended whole, ended
-ended : (n : ℕ) (r : Read) (at : ℕ) → Ended at ≡ at_end n r → r ≡ Ended at
-ended n (Ended next) at e = go (ltb next n) e
+ended : (n : ℕ) (r : Read) (at : ℕ) → Ok at ≡ at_end n r → r ≡ Ok at
+ended n (Ok next) at e = go (ltb next n) e
   where
-    go : (b : Bool) → Ended at ≡ cond b (Refused Trailing) (Ended next) → Ended next ≡ Ended at
-    go true f = let z : ◌≡◌ {A = ℕ} 0 1 = cc in absurd (omega arith)
+    go : (b : Bool) → Ok at ≡ cond b (Err Trailing) (Ok next) → ◌≡◌ {A = Read} (Ok next) (Ok at)
+    go true f = cc
     go false f = sym f
-ended n (Refused r) at e = let z : ◌≡◌ {A = ℕ} 0 1 = cc in absurd (omega arith)
+ended n (Err r) at e = cc
 
 -- All vectors of a block in range are within the list
 pub vectors_fit : (o : Layout) (list : List ℤ) → InRange (block_of o list)
@@ -105,14 +104,14 @@ vectors_fit o list h =
 
 -- A list of which a record's reading, to its end, made another
 module _ (bytes : List ℕ) (at : ℕ) (list list' : List ℤ) (room : length list ≡ most_numbers)
-    (e : got (Ended at) list' ≡ into 0 (read_whole bytes) list) where
-  lent_ended : (read_record bytes).read ≡ Ended at
+    (e : got (Ok at) list' ≡ into 0 (read_whole bytes) list) where
+  lent_ended : (read_record bytes).read ≡ Ok at
   unfolding read_whole
   lent_ended = ended (length bytes) (read_record bytes).read at (ap (λ (g : Got). g.read) e)
 
   -- The list is as long as before
   pub lent_room : length list' ≡ most_numbers
-  lent_room = into_length 0 (read_whole bytes) (Ended at) list list' e ∙ room
+  lent_room = into_length 0 (read_whole bytes) (Ok at) list list' e ∙ room
 
   lent_is : list' ≡ (read_record bytes).numbers ++ drop (length (read_record bytes).numbers) list
   unfolding read_whole

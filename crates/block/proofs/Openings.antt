@@ -1,14 +1,13 @@
 -- Whether a list begins with another, place by place.
-use Prim.Native.Nat.{ℕ, zero, suc, ◌+◌, ◌<◌}
+use Prim.Native.Nat.{ℕ, zero, suc, ◌<◌}
 use mathlib.Core.Path.{◌≡◌, refl, sym, ap, ◌∙◌}
 use mathlib.Core.Bool.{Bool, true, false, ◌&&◌, cond, true≢false}
 use mathlib.Core.List.{List, [], ◌∷◌}
 use native.Mathlib.Omega.{arith}
 use native.Mathlib.Nat.{not-suc-le-zero, le_of_suc-le-suc}
-use native.Mathlib.Numerals.{add-one}
 use lib.Dec.{eqb}
-use lib.ListN.{length, get_or, drop}
-use lib.Seq.{drop-cons}
+use lib.ListN.{length, get_or, take}
+use lib.Pointwise.{pointwise}
 use borrow.Author.Tests.{eqb-true}
 use Rattle.block.specs.Reading.{opening, starts_with, layout_of}
 use Rattle.refusals.proofs.Tests.{and_left, and_right}
@@ -26,11 +25,12 @@ starts_short [] l h = absurd (not-suc-le-zero h)
 starts_short (x ∷ p) [] h = refl
 starts_short (x ∷ p) (y ∷ l) h = ap (◌&&◌ (eqb x y)) (starts_short p l (le_of_suc-le-suc h)) ∙ and_none (eqb x y)
 
--- One place further in both
-pub starts_step : (p l : List ℕ) (i : ℕ) → i < length p → i < length l
-    → starts_with (drop i p) (drop i l) ≡ (eqb (get_or p i 0) (get_or l i 0) && starts_with (drop (i + 1) p) (drop (i + 1) l))
+-- The library's test is the same: each byte of p with the one in its place
+pub starts_is : (p l : List ℕ) → pointwise eqb p (take (length p) l) ≡ starts_with p l
 unfolding starts_with
-starts_step p l i h k = rw (add-one, drop-cons p i 0, drop-cons l i 0)
+starts_is [] l = refl
+starts_is (x ∷ p) [] = refl
+starts_is (x ∷ p) (y ∷ l) = ap (◌&&◌ (eqb x y)) (starts_is p l)
 
 -- One that does has its bytes
 pub starts_at : (p l : List ℕ) → starts_with p l ≡ true → (i : ℕ) → i < length p → get_or l i 0 ≡ get_or p i 0

@@ -14,13 +14,10 @@ use Rattle.model.specs.Block.{◌∈◌, widths, most_streams, most_width, most_
 use Rattle.refusals.specs.Table.{crowded, allowed}
 use Rattle.block.proofs.Ranges.{Plain, between_plain, OneOf, allowed_width, allowed_uncrowded}
 use Rattle.block.proofs.Reading.{one_found, into_none, append_ended, append_refused}
-use Rattle.block.specs.Reading.{weak_count, own_count, header_size, one_at, Parse, by_one, numbers_at, and_then, part_kinds, part_at, owned_size, vector_kinds, read_record, at_end, read_whole, Got, got, into, most_numbers}
+use Rattle.block.specs.Reading.{weak_count, own_count, header_size, one_at, Parse, by_one, numbers_at, and_then, part_kinds, part_at, owned_size, vector_kinds, read_record, at_end, read_whole, Got, got, into, most_numbers, One, Read}
 use Rattle.refusals.specs.declared.Kind.{Kind}
 use Rattle.refusals.specs.declared.Kind.TheVariants.{StreamCount, SymbolWidth}
-use Rattle.block.specs.declared.One.{One}
-use Rattle.block.specs.declared.One.TheVariants.{Taken, Turned}
-use Rattle.block.specs.declared.Read.{Read}
-use Rattle.block.specs.declared.Read.TheVariants.{Ended, Refused}
+use Rattle.std.specs.Prelude.{Ok, Err}
 use Rattle.refusals.specs.declared.Refusal.{Refusal}
 use Rattle.block.specs.declared.Part.TheVariants.{Vector}
 use Rattle.block.specs.declared.Layout.{Layout}
@@ -38,11 +35,11 @@ into_length from p r list list' e = ap (λ (g : Got). length g.list) e ∙ lengt
 
 -- Where a parse was stored whole, what follows goes on behind it; where it was turned back, nothing follows
 module _ (p : Parse) (f : List ℤ → ℕ → Parse) (from : ℕ) (list list' : List ℤ) where
-  pub then_ended : (next : ℕ) → got (Ended next) list' ≡ into from p list
+  pub then_ended : (next : ℕ) → got (Ok next) list' ≡ into from p list
       → into from (and_then p f) list ≡ into (from + length p.numbers) (f p.numbers next) list'
   then_ended next e = go p.read refl (ap (λ (g : Got). g.read) e)
     where
-      go : (r : Read) → p.read ≡ r → Ended next ≡ p.read
+      go : (r : Read) → p.read ≡ r → Ok next ≡ p.read
           → into from (and_then p f) list ≡ into (from + length p.numbers) (f p.numbers next) list'
       go r is h =
           rw (sym h)
@@ -50,8 +47,8 @@ module _ (p : Parse) (f : List ℤ → ℕ → Parse) (from : ℕ) (list list' :
           ((sets_append p.numbers (f p.numbers next).numbers list from
           ∙ ap (λ (l : List ℤ). sets l (from + length p.numbers) (f p.numbers next).numbers) (sym (ap (λ (g : Got). g.list) e))) j))
 
-  pub then_refused : (r : Refusal) → got (Refused r) list' ≡ into from p list → into from (and_then p f) list ≡ got (Refused r) list'
-  then_refused r e = let h : Refused r ≡ p.read = ap (λ (g : Got). g.read) e in rw (sym h) (λ j. got (Refused r) (sym (ap (λ (g : Got). g.list) e) j))
+  pub then_refused : (r : Refusal) → got (Err r) list' ≡ into from p list → into from (and_then p f) list ≡ got (Err r) list'
+  then_refused r e = let h : Err r ≡ p.read = ap (λ (g : Got). g.read) e in rw (sym h) (λ j. got (Err r) (sym (ap (λ (g : Got). g.list) e) j))
 
 -- Each number is in the range of its kind, and there are as many
 abbrev pub AllAllowed : List Kind → List ℤ → Type 0
@@ -67,17 +64,17 @@ allowed_length (k ∷ ks) [] h = absurd h
 allowed_length (k ∷ ks) (z ∷ zs) h = ap suc (allowed_length ks zs h.1)
 
 -- Numbers that were read whole
-pub all_allowed : (ks : List Kind) (bytes : List ℕ) (at next : ℕ) → (numbers_at ks bytes at).read ≡ Ended next → AllAllowed ks (numbers_at ks bytes at).numbers
+pub all_allowed : (ks : List Kind) (bytes : List ℕ) (at next : ℕ) → (numbers_at ks bytes at).read ≡ Ok next → AllAllowed ks (numbers_at ks bytes at).numbers
 unfolding numbers_at
 all_allowed [] bytes at next e = tt
 all_allowed (k ∷ ks) bytes at next e = go (one_at k bytes at) refl e (λ place. all_allowed ks bytes place next)
   where
-    go : (o : One) → one_at k bytes at ≡ o → (by_one (numbers_at ks bytes) o).read ≡ Ended next
-        → ((place : ℕ) → (numbers_at ks bytes place).read ≡ Ended next → AllAllowed ks (numbers_at ks bytes place).numbers)
+    go : (o : One) → one_at k bytes at ≡ o → (by_one (numbers_at ks bytes) o).read ≡ Ok next
+        → ((place : ℕ) → (numbers_at ks bytes place).read ≡ Ok next → AllAllowed ks (numbers_at ks bytes place).numbers)
         → AllAllowed (k ∷ ks) (by_one (numbers_at ks bytes) o).numbers
-    go (Taken z place) f g ih =
+    go (Ok (z, place)) f g ih =
         let n = one_found k bytes at z place f in (subst (λ (w : ℤ). allowed k w ≡ true) n.is n.ranged, ih place g)
-    go (Turned r) f g ih = let h : ◌≡◌ {A = ℕ} 0 1 = cc in absurd (omega arith)
+    go (Err r) f g ih = cc
 
 -- Numbers that are all in range, by their place
 pub allowed_at : (ks : List Kind) (zs : List ℤ) → AllAllowed ks zs → (i : ℕ) (d : Kind) → i < length ks
@@ -89,7 +86,7 @@ allowed_at (k ∷ ks) (z ∷ zs) a (suc i) d h = allowed_at ks zs a.1 i d (omega
 
 -- n vectors, after k of them
 module _ (n k own m q : ℕ) (bytes : List ℕ) (place to : ℕ) (list : List ℤ) where
-  pub rest_none : n ≤ k → into to (numbers_at (vector_kinds (n - k) own m q) bytes place) list ≡ got (Ended place) list
+  pub rest_none : n ≤ k → into to (numbers_at (vector_kinds (n - k) own m q) bytes place) list ≡ got (Ok place) list
   unfolding vector_kinds
   rest_none h = let e : n - k ≡ 0 = omega arith in rw e (into_none bytes place to list)
 
@@ -100,7 +97,7 @@ module _ (n k own m q : ℕ) (bytes : List ℕ) (place to : ℕ) (list : List �
     pub rest_room : (s : ℕ) → (n - k) * s ≡ (n - (k + 1)) * s + s
     rest_room s = ap (λ (x : ℕ). x * s) more ∙ suc-mul (n - (k + 1)) s
 
-    pub rest_ended : (list' : List ℤ) (next : ℕ) → got (Ended next) list' ≡ into to (part_at (Vector own m q) bytes place) list
+    pub rest_ended : (list' : List ℤ) (next : ℕ) → got (Ok next) list' ≡ into to (part_at (Vector own m q) bytes place) list
         → into to (numbers_at (vector_kinds (n - k) own m q) bytes place) list
         ≡ into (to + owned_size own m q) (numbers_at (vector_kinds (n - (k + 1)) own m q) bytes next) list'
     unfolding vector_kinds
@@ -109,8 +106,8 @@ module _ (n k own m q : ℕ) (bytes : List ℕ) (place to : ℕ) (list : List �
         (append_ended (vector_kinds (n - (k + 1)) own m q) bytes (part_kinds (Vector own m q)) place to next list list' e
         ∙ ap (λ (s : ℕ). into (to + s) (numbers_at (vector_kinds (n - (k + 1)) own m q) bytes next) list') (owned_numbers own m q))
 
-    pub rest_refused : (list' : List ℤ) (r : Refusal) → got (Refused r) list' ≡ into to (part_at (Vector own m q) bytes place) list
-        → into to (numbers_at (vector_kinds (n - k) own m q) bytes place) list ≡ got (Refused r) list'
+    pub rest_refused : (list' : List ℤ) (r : Refusal) → got (Err r) list' ≡ into to (part_at (Vector own m q) bytes place) list
+        → into to (numbers_at (vector_kinds (n - k) own m q) bytes place) list ≡ got (Err r) list'
     unfolding vector_kinds
     rest_refused list' r e =
         rw more (append_refused (vector_kinds (n - (k + 1)) own m q) bytes (part_kinds (Vector own m q)) place to r list list' e)
@@ -172,10 +169,10 @@ label_most m z a b = ⊎_elim four three (eq-or-lt_of_le streams.high)
 
 -- The end
 module _ (bytes : List ℕ) (list list' : List ℤ) where
-  pub whole_ended : (at : ℕ) → got (Ended at) list' ≡ into 0 (read_record bytes) list → (r : Read) → at_end (length bytes) (Ended at) ≡ r → got r list' ≡ into 0 (read_whole bytes) list
+  pub whole_ended : (at : ℕ) → got (Ok at) list' ≡ into 0 (read_record bytes) list → (r : Read) → at_end (length bytes) (Ok at) ≡ r → got r list' ≡ into 0 (read_whole bytes) list
   unfolding read_whole
   whole_ended at e r f = λ j. got ((sym f ∙ ap (λ (g : Got). at_end (length bytes) g.read) e) j) (e j).list
 
-  pub whole_refused : (r : Refusal) → got (Refused r) list' ≡ into 0 (read_record bytes) list → got (Refused r) list' ≡ into 0 (read_whole bytes) list
+  pub whole_refused : (r : Refusal) → got (Err r) list' ≡ into 0 (read_record bytes) list → got (Err r) list' ≡ into 0 (read_whole bytes) list
   unfolding read_whole
   whole_refused r e = λ j. got (at_end (length bytes) (e j).read) (e j).list

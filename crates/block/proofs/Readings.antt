@@ -8,12 +8,11 @@ use Rattle.model.specs.Constellation.{Complex}
 use Rattle.model.specs.Metric.{Row}
 use Rattle.model.specs.Soft.{up_from}
 use Rattle.model.specs.Block.{Block}
-use Rattle.block.specs.declared.Read.{Read}
-use Rattle.block.specs.declared.Read.TheVariants.{Refused}
+use Rattle.block.specs.Reading.{Read, by_number, numbers_at, kinds_of, runs_of, matrix_runs, vector_kinds, starts_with, layout_of, stages_at, read_record}
+use Rattle.std.specs.Prelude.{Err}
 use Rattle.refusals.specs.declared.Refusal.TheVariants.{Ends, Malformed, Weak, Clip, Share, Owner, Diagonal, Prior}
 use Rattle.wire.specs.Reading.{number_at, groups, above_digits, last_group}
 use Rattle.wire.specs.Folding.{unfolded}
-use Rattle.block.specs.Reading.{by_number, numbers_at, kinds_of, runs_of, matrix_runs, vector_kinds, starts_with, layout_of, stages_at, read_record}
 use Rattle.block.specs.Contents.{complexes, rows_from, rows_of, block_of}
 
 -- A complex number
@@ -57,12 +56,12 @@ weakened_block = refl
 abbrev header : List ℕ
 header = 0x43 ∷ 0x42 ∷ 0x52 ∷ 0x32 ∷ 0x02 ∷ 0x01 ∷ 0x01 ∷ []
 
-pub weak_refused : (read_record (header ++ 0x0A ∷ 0x0B ∷ 0x00 ∷ [])).read ≡ Refused Weak
+pub weak_refused : (read_record (header ++ 0x0A ∷ 0x0B ∷ 0x00 ∷ [])).read ≡ Err Weak
 unfolding read_record layout_of stages_at vector_kinds numbers_at kinds_of runs_of matrix_runs by_number number_at groups above_digits
     last_group unfolded starts_with
 weak_refused = refl
 
-pub clip_first : (read_record (header ++ 0x80 ∷ 0x80 ∷ 0x80 ∷ 0x08 ∷ 0x81 ∷ 0x80 ∷ 0x80 ∷ 0x08 ∷ [])).read ≡ Refused Clip
+pub clip_first : (read_record (header ++ 0x80 ∷ 0x80 ∷ 0x80 ∷ 0x08 ∷ 0x81 ∷ 0x80 ∷ 0x80 ∷ 0x08 ∷ [])).read ≡ Err Clip
 unfolding read_record layout_of stages_at vector_kinds numbers_at kinds_of runs_of matrix_runs by_number number_at groups above_digits
     last_group unfolded starts_with
 clip_first = refl
@@ -105,7 +104,7 @@ behind_clips =
     ∷ []
 
 pub owners_refused : map refused_by behind_clips
-    ≡ map Refused (Owner ∷ Owner ∷ Owner ∷ Ends ∷ Malformed ∷ Diagonal ∷ Share ∷ Prior ∷ Owner ∷ [])
+    ≡ map Err (Owner ∷ Owner ∷ Owner ∷ Ends ∷ Malformed ∷ Diagonal ∷ Share ∷ Prior ∷ Owner ∷ [])
 unfolding refused_by behind_clips
 owners_refused = refl
 

@@ -15,7 +15,7 @@ use Rattle.block.specs.Contents.{header_kinds}
 use Rattle.block.proofs.Reading.{into_none, append_ended, append_refused}
 use Rattle.refusals.specs.declared.Kind.{Kind}
 use Rattle.refusals.specs.declared.Kind.TheVariants.{StreamCount, WeakLevel, NodeShare, OwnerNumber, DiagonalEntry, RightPart, ReceivedPart, BitPrior}
-use Rattle.block.specs.declared.Read.TheVariants.{Ended, Refused}
+use Rattle.std.specs.Prelude.{Ok, Err}
 use Rattle.refusals.specs.declared.Refusal.{Refusal}
 use Rattle.block.specs.declared.Run.{Run}
 use Rattle.block.specs.declared.Part.TheVariants.{First, Sizes, Limits, Vector}
@@ -166,21 +166,21 @@ module _ (rs : List Run) (i : ℕ) (h : i < length rs) (rn : Run) (is : rn ≡ g
 
   -- Where it ended the next one begins; where it was turned back the part is
   module _ (bytes : List ℕ) (place to : ℕ) (list list' : List ℤ) where
-    pub part_ended : (next : ℕ) → got (Ended next) list' ≡ into to (numbers_at (replicate rn.count rn.kind) bytes place) list
+    pub part_ended : (next : ℕ) → got (Ok next) list' ≡ into to (numbers_at (replicate rn.count rn.kind) bytes place) list
         → into to (numbers_at (kinds_of (drop i rs)) bytes place) list ≡ into (to + rn.count) (numbers_at (kinds_of (drop (i + 1) rs)) bytes next) list'
     part_ended next e =
         ap (λ (ks : List Kind). into to (numbers_at ks bytes place) list) step
         ∙ append_ended (kinds_of (drop (i + 1) rs)) bytes (replicate rn.count rn.kind) place to next list list' e
         ∙ ap (λ (n : ℕ). into (to + n) (numbers_at (kinds_of (drop (i + 1) rs)) bytes next) list') (length-replicate rn.count rn.kind)
 
-    pub part_refused : (r : Refusal) → got (Refused r) list' ≡ into to (numbers_at (replicate rn.count rn.kind) bytes place) list
-        → into to (numbers_at (kinds_of (drop i rs)) bytes place) list ≡ got (Refused r) list'
+    pub part_refused : (r : Refusal) → got (Err r) list' ≡ into to (numbers_at (replicate rn.count rn.kind) bytes place) list
+        → into to (numbers_at (kinds_of (drop i rs)) bytes place) list ≡ got (Err r) list'
     part_refused r e =
         ap (λ (ks : List Kind). into to (numbers_at ks bytes place) list) step
         ∙ append_refused (kinds_of (drop (i + 1) rs)) bytes (replicate rn.count rn.kind) place to r list list' e
 
 -- After the last run there is nothing more
 pub part_none : (rs : List Run) (i : ℕ) (bytes : List ℕ) (place to : ℕ) (list : List ℤ) → length rs ≤ i
-    → into to (numbers_at (kinds_of (drop i rs)) bytes place) list ≡ got (Ended place) list
+    → into to (numbers_at (kinds_of (drop i rs)) bytes place) list ≡ got (Ok place) list
 unfolding kinds_of
 part_none rs i bytes place to list h = rw (drop_of_length-le rs {i = i} h) (into_none bytes place to list)

@@ -20,8 +20,7 @@ use Rattle.block.specs.declared.Layout.{Layout}
 use Rattle.refusals.specs.declared.Kind.{Kind}
 use Rattle.refusals.specs.declared.Kind.TheVariants.{StreamCount, SymbolWidth, VectorCount, ClipLevel, WeakLevel, NodeShare, OwnerNumber}
 use Rattle.refusals.specs.declared.Kind.TheVariants.{DiagonalEntry, RightPart, ReceivedPart, BitPrior}
-use Rattle.block.specs.declared.One.TheVariants.{Taken}
-use Rattle.block.specs.declared.Read.TheVariants.{Ended}
+use Rattle.std.specs.Prelude.{Ok}
 use Rattle.block.specs.declared.Run.{Run}
 use Rattle.block.specs.declared.Part.TheVariants.{Vector}
 use Rattle.block.proofs.Ranges.{between_plain, between_signed, allowed_width}
@@ -68,7 +67,7 @@ kind_bytes ReceivedPart n e = folded_bytes 3 most_received n (omega arith) (omeg
 kind_bytes BitPrior n e = folded_bytes 3 most_prior n (omega arith) (omega arith) e
 
 -- One number that was taken
-one_size : (k : Kind) (bytes : List ℕ) (at next : ℕ) (z : ℤ) → one_at k bytes at ≡ Taken z next → next ≤ at + most_bytes k
+one_size : (k : Kind) (bytes : List ℕ) (at next : ℕ) (z : ℤ) → one_at k bytes at ≡ Ok (z, next) → next ≤ at + most_bytes k
 one_size k bytes at next z e =
     let f = one_found k bytes at z next e in omega (arith, read_ends bytes at f.n next f.value, kind_bytes k f.n f.ranged)
 
@@ -78,7 +77,7 @@ most_of [] = 0
 most_of (k ∷ ks) = most_bytes k + most_of ks
 
 -- Numbers that were read whole
-pub numbers_size : (ks : List Kind) (bytes : List ℕ) (at next : ℕ) → (numbers_at ks bytes at).read ≡ Ended next → next ≤ at + most_of ks
+pub numbers_size : (ks : List Kind) (bytes : List ℕ) (at next : ℕ) → (numbers_at ks bytes at).read ≡ Ok next → next ≤ at + most_of ks
 unfolding most_of
 numbers_size ks bytes at next e =
     let end = numbers_keep (λ l place. place + most_of l ≤ at + most_of ks) bytes
@@ -143,7 +142,7 @@ most_record o numbers =
     )
 
 -- An accepted record is at most 8,275 bytes
-pub accepted_size : (bytes : List ℕ) (at : ℕ) → (read_record bytes).read ≡ Ended at → at ≤ longest_record
+pub accepted_size : (bytes : List ℕ) (at : ℕ) → (read_record bytes).read ≡ Ok at → at ≤ longest_record
 unfolding block_of
 accepted_size bytes at e =
     let numbers = (read_record bytes).numbers in

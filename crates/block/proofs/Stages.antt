@@ -11,13 +11,10 @@ use lib.ListN.{length, get_or, take, drop, length-append, get_or-append}
 use lib.Seq.{sets-eq, length-take-le, take_at, take-append_seam, take-take, get_or-append-add, get_or-take}
 use lib.IntN.{ℤ, pos}
 use Rattle.refusals.specs.Table.{allowed}
-use Rattle.block.specs.Reading.{one_at, Parse, by_one, numbers_at, by_read, and_then, stages_at, Got, got, into}
+use Rattle.block.specs.Reading.{one_at, Parse, by_one, numbers_at, by_read, and_then, stages_at, Got, got, into, One, Read}
 use Rattle.block.specs.Conditions.{called_by}
 use Rattle.refusals.specs.declared.Kind.{Kind}
-use Rattle.block.specs.declared.One.{One}
-use Rattle.block.specs.declared.One.TheVariants.{Taken, Turned}
-use Rattle.block.specs.declared.Read.{Read}
-use Rattle.block.specs.declared.Read.TheVariants.{Ended, Refused}
+use Rattle.std.specs.Prelude.{Ok, Err}
 use Rattle.refusals.specs.declared.Refusal.{Refusal}
 use Rattle.block.proofs.Parts.{allowed_length, all_allowed, allowed_at, into_length, then_ended, then_refused}
 
@@ -36,30 +33,30 @@ numbers_append (k ∷ a) b bytes at = go (one_at k bytes at) (numbers_append a b
     further numbers next = numbers_at b bytes next
 
     under : (z : ℤ) (zs : List ℤ) (r : Read) → joined (z ∷ []) (by_read zs further r) ≡ by_read (z ∷ zs) further r
-    under z zs (Ended next) = refl
-    under z zs (Refused r) = refl
+    under z zs (Ok next) = refl
+    under z zs (Err r) = refl
 
     go : (o : One) → ((at : ℕ) → numbers_at (a ++ b) bytes at ≡ and_then (numbers_at a bytes at) further)
         → by_one (numbers_at (a ++ b) bytes) o ≡ and_then (by_one (numbers_at a bytes) o) further
-    go (Taken z next) ih = ap (joined (z ∷ [])) (ih next) ∙ under z (numbers_at a bytes next).numbers (numbers_at a bytes next).read
-    go (Turned r) ih = refl
+    go (Ok (z, next)) ih = ap (joined (z ∷ [])) (ih next) ∙ under z (numbers_at a bytes next).numbers (numbers_at a bytes next).read
+    go (Err r) ih = refl
 
 -- As many numbers as kinds
-pub ended_count : (ks : List Kind) (bytes : List ℕ) (at next : ℕ) → (numbers_at ks bytes at).read ≡ Ended next
+pub ended_count : (ks : List Kind) (bytes : List ℕ) (at next : ℕ) → (numbers_at ks bytes at).read ≡ Ok next
     → length (numbers_at ks bytes at).numbers ≡ length ks
 ended_count ks bytes at next e = allowed_length ks (numbers_at ks bytes at).numbers (all_allowed ks bytes at next e)
 
 -- What follows some numbers matters only where they ended
-then_same : (p : Parse) (f g : List ℤ → ℕ → Parse) → ((n : ℕ) → p.read ≡ Ended n → f p.numbers n ≡ g p.numbers n)
+then_same : (p : Parse) (f g : List ℤ → ℕ → Parse) → ((n : ℕ) → p.read ≡ Ok n → f p.numbers n ≡ g p.numbers n)
     → and_then p f ≡ and_then p g
 then_same p f g same = go p.read same
   where
-    go : (r : Read) → ((n : ℕ) → r ≡ Ended n → f p.numbers n ≡ g p.numbers n) → by_read p.numbers f r ≡ by_read p.numbers g r
-    go (Ended n) h = ap (joined p.numbers) (h n refl)
-    go (Refused r) h = refl
+    go : (r : Read) → ((n : ℕ) → r ≡ Ok n → f p.numbers n ≡ g p.numbers n) → by_read p.numbers f r ≡ by_read p.numbers g r
+    go (Ok n) h = ap (joined p.numbers) (h n refl)
+    go (Err r) h = refl
 
 -- and stands behind them
-then_front : (p : Parse) (f : List ℤ → ℕ → Parse) (n : ℕ) → p.read ≡ Ended n
+then_front : (p : Parse) (f : List ℤ → ℕ → Parse) (n : ℕ) → p.read ≡ Ok n
     → (and_then p f).numbers ≡ p.numbers ++ (f p.numbers n).numbers
 then_front p f n e = rw e
 
@@ -77,7 +74,7 @@ module _ (s : List ℤ → List Kind) (later : List (List ℤ → List Kind)) (k
       (numbers_append (s known) (behind_stage s later known zs) bytes at)
 
   -- Where the stage ended, its numbers are known as well
-  behind_stage_lem : (n : ℕ) → (numbers_at (s known) bytes at).read ≡ Ended n → (rest : List ℤ)
+  behind_stage_lem : (n : ℕ) → (numbers_at (s known) bytes at).read ≡ Ok n → (rest : List ℤ)
       → let stage = (numbers_at (s known) bytes at).numbers in
       zs ≡ stage ++ rest → behind_stage s later known zs ≡ called_by later (length (known ++ stage)) (known ++ stage ++ rest)
   behind_stage_lem n e rest is =
@@ -107,7 +104,7 @@ stages_read (s ∷ later) known bytes at =
     called numbers next = numbers_at (behind_stage s later known all) bytes next
 
     same : ((told : List ℤ) (n : ℕ) → stages_at later told bytes n ≡ numbers_at (called_by later (length told) (told ++ (stages_at later told bytes n).numbers)) bytes n)
-        → (n : ℕ) → stage.read ≡ Ended n → others stage.numbers n ≡ called stage.numbers n
+        → (n : ℕ) → stage.read ≡ Ok n → others stage.numbers n ≡ called stage.numbers n
     same ih n e =
         ih (known ++ stage.numbers) n
         ∙ ap (λ (ks : List Kind). numbers_at ks bytes n)
@@ -133,7 +130,7 @@ stages_only (s ∷ later) known zs bytes at r e =
 
     same : ((told rest : List ℤ) (n : ℕ) (t : Read) → numbers_at (called_by later (length told) (told ++ rest)) bytes n ≡ record { numbers = rest; read = t }
         → stages_at later told bytes n ≡ record { numbers = rest; read = t })
-        → (n : ℕ) → stage.read ≡ Ended n → others stage.numbers n ≡ called stage.numbers n
+        → (n : ℕ) → stage.read ≡ Ok n → others stage.numbers n ≡ called stage.numbers n
     same ih n f =
         let rest = (called stage.numbers n).numbers in
         let front : zs ≡ stage.numbers ++ rest =
@@ -263,11 +260,11 @@ beginning_calls (s ∷ later) before k numbers d i most h =
 
 -- Numbers that were stored whole from a place on
 module _ (ks : List Kind) (bytes : List ℕ) (at next n : ℕ) (list list' : List ℤ) (room : n + length ks ≤ length list)
-    (e : got (Ended next) list' ≡ into n (numbers_at ks bytes at) list) where
+    (e : got (Ok next) list' ≡ into n (numbers_at ks bytes at) list) where
   abbrev stored : List ℤ
   stored = (numbers_at ks bytes at).numbers
 
-  were_ended : (numbers_at ks bytes at).read ≡ Ended next
+  were_ended : (numbers_at ks bytes at).read ≡ Ok next
   were_ended = sym (ap (λ (g : Got). g.read) e)
 
   many : length stored ≡ length ks
@@ -281,7 +278,7 @@ module _ (ks : List Kind) (bytes : List ℕ) (at next n : ℕ) (list list' : Lis
   front = length-append (take n list) stored ∙ (omega (arith, many, length-take-le n list (omega arith)))
 
   pub stored_length : length list' ≡ length list
-  stored_length = into_length n (numbers_at ks bytes at) (Ended next) list list' e
+  stored_length = into_length n (numbers_at ks bytes at) (Ok next) list list' e
 
   pub stored_front : take (n + length ks) list' ≡ take n list ++ stored
   stored_front = ap (take (n + length ks)) list_is ∙ take_at (take n list ++ stored) (drop (n + length stored) list) (n + length ks) front
@@ -310,7 +307,7 @@ module _ (s : List ℤ → List Kind) (later : List (List ℤ → List Kind)) (b
   kinds = s (take n list)
 
   -- Where it was stored whole, the front goes on behind it
-  pub stage_ended : (next : ℕ) → n + length kinds ≤ length list → got (Ended next) list' ≡ into n (numbers_at kinds bytes at) list
+  pub stage_ended : (next : ℕ) → n + length kinds ≤ length list → got (Ok next) list' ≡ into n (numbers_at kinds bytes at) list
       → into n (stages_at (s ∷ later) (take n list) bytes at) list
       ≡ into (n + length kinds) (stages_at later (take (n + length kinds) list') bytes next) list'
   unfolding stages_at
@@ -320,8 +317,8 @@ module _ (s : List ℤ → List Kind) (later : List (List ℤ → List Kind)) (b
       (stages_at later (sym (stored_front kinds bytes at next n list list' room e) j) bytes next) list'
 
   -- Where it was turned back, so are all
-  pub stage_refused : (r : Refusal) → got (Refused r) list' ≡ into n (numbers_at kinds bytes at) list
-      → into n (stages_at (s ∷ later) (take n list) bytes at) list ≡ got (Refused r) list'
+  pub stage_refused : (r : Refusal) → got (Err r) list' ≡ into n (numbers_at kinds bytes at) list
+      → into n (stages_at (s ∷ later) (take n list) bytes at) list ≡ got (Err r) list'
   unfolding stages_at
   stage_refused r e = then_refused (numbers_at kinds bytes at) (λ zs after. stages_at later (take n list ++ zs) bytes after) n list list' r e
 
@@ -332,6 +329,6 @@ unfolding stages_at
 stage_last s known bytes at = go (numbers_at (s known) bytes at).numbers (numbers_at (s known) bytes at).read
   where
     go : (zs : List ℤ) (r : Read)
-        → by_read zs (λ numbers next. record { numbers = []; read = Ended next }) r ≡ record { numbers = zs; read = r }
-    go zs (Ended next) = λ j. record { numbers = append-nil zs j; read = Ended next }
-    go zs (Refused r) = refl
+        → by_read zs (λ numbers next. record { numbers = []; read = Ok next }) r ≡ record { numbers = zs; read = r }
+    go zs (Ok next) = λ j. record { numbers = append-nil zs j; read = Ok next }
+    go zs (Err r) = refl

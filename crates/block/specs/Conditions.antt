@@ -1,15 +1,13 @@
 -- Demand 1, from document 01, "Where a record is turned back", and Points 1, 4 and 7 of document 02: the table's conditions, row by row.
-use Rattle.std.specs.Prelude.{ℕ, ◌+◌, ◌<◌, ◌≡◌, true, false, cond, List, [], ◌∷◌, ◌++◌, leb, length, get_or, take, ℤ, pos}
+use Rattle.std.specs.Prelude.{ℕ, ◌+◌, ◌<◌, ◌≡◌, true, false, cond, List, [], ◌∷◌, ◌++◌, leb, length, get_or, take, ℤ, pos, Ok}
 use Rattle.model.specs.Block.{widths}
 use Rattle.wire.specs.Reading.{number_at, number_refusal}
-use Rattle.wire.specs.declared.Number.TheVariants.{Value}
 use Rattle.refusals.specs.Table.{refusal_number, one_of, allowed}
 use Rattle.block.specs.Reading.{opening, whole_of, numbers_at, starts_with, stages}
 use Rattle.refusals.specs.declared.Kind.{Kind}
 use Rattle.refusals.specs.declared.Kind.TheVariants.{StreamCount, SymbolWidth, VectorCount, ClipLevel, WeakLevel, NodeShare, OwnerNumber, DiagonalEntry, RightPart, ReceivedPart, BitPrior}
 use Rattle.refusals.specs.declared.Refusal.{Refusal}
 use Rattle.refusals.specs.declared.Refusal.TheVariants.{Opening, Ends, Malformed, Streams, Width, Vectors, Clip, Share, Diagonal, Entry, Received, Prior, Trailing, Buffer, Crowded, Weak, Owner}
-use Rattle.block.specs.declared.Read.TheVariants.{Ended}
 use Rattle.block.specs.declared.Layout.{Layout}
 
 -- The kinds that numbers call for, as far as they tell: each stage's, once all numbers before it are there. So many these are
@@ -26,7 +24,7 @@ called_for layout numbers = called_by (stages layout) 0 numbers
 -- A record's first checks are passed: its opening, and each of its first numbers, "read, then ranged, before the next", up to a place
 pub record Passed (bytes : List ℕ) (layout : Layout) (numbers : List ℤ) (at : ℕ) : Type 0 where
   pub opens : starts_with (opening layout) bytes ≡ true
-  pub each : numbers_at (take (length numbers) (called_for layout numbers)) bytes 4 ≡ record { numbers = numbers; read = Ended at }
+  pub each : numbers_at (take (length numbers) (called_for layout numbers)) bytes 4 ≡ record { numbers = numbers; read = Ok at }
 
 -- and a number of some kind comes next
 pub record Next (bytes : List ℕ) (k : Kind) (at : ℕ) : Type 0 where
@@ -42,7 +40,7 @@ pub record NextIs (bytes : List ℕ) (k : Kind) (Holds : ℤ → Type 0) : Type 
   pub next : Next bytes k at
   pub n : ℕ
   pub after : ℕ
-  pub value : number_at bytes at ≡ Value n after
+  pub value : number_at bytes at ≡ Ok (n, after)
   pub holds : Holds (whole_of k n)
 
 -- as that of being out of its range

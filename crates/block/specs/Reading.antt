@@ -1,20 +1,15 @@
 -- Document 01, "The record": reading a block record from any list of bytes. "Checks follow the record's order; each number is read, then
 -- ranged, before the next. The first that fails decides."
-use Rattle.std.specs.Prelude.{ℕ, zero, suc, ◌+◌, ◌*◌, ◌<◌, ◌≤◌, ◌≡◌, Bool, true, false, cond, ◌&&◌, List, [], ◌∷◌, ◌++◌, ltb, eqb, length, get_or, replicate, ℤ, pos, nat_abs}
+use Rattle.std.specs.Prelude.{ℕ, zero, suc, ◌+◌, ◌*◌, ◌<◌, ◌≤◌, ◌≡◌, Bool, true, false, cond, ◌&&◌, List, [], ◌∷◌, ◌++◌, ltb, eqb, length, get_or, replicate, ℤ, pos, nat_abs, Result, Ok, Err}
 use Rattle.std.proofs.lemmas.List.Edits.{sets}
 use Rattle.model.specs.Block.{most_streams, most_width, most_bits}
-use Rattle.wire.specs.Reading.{number_at}
 use Rattle.wire.specs.Folding.{unfolded}
-use Rattle.wire.specs.declared.Number.{Number}
-use Rattle.wire.specs.declared.Number.TheVariants.{Value, Short, Malformed}
-use Rattle.refusals.specs.Table.{allowed, is_folded, refusal_of}
+use Rattle.wire.specs.Reading.{Number, number_at}
+use Rattle.refusals.specs.Table.{allowed, is_folded, refusal_of, unreadable}
 use Rattle.refusals.specs.declared.Kind.{Kind}
 use Rattle.refusals.specs.declared.Kind.TheVariants.{StreamCount, SymbolWidth, VectorCount, ClipLevel, WeakLevel, NodeShare, OwnerNumber, DiagonalEntry, RightPart, ReceivedPart, BitPrior}
-use Rattle.refusals.specs.declared.Refusal.TheVariants.{Opening, Ends, Malformed as NoNumber, Trailing}
-use Rattle.block.specs.declared.One.{One}
-use Rattle.block.specs.declared.One.TheVariants.{Taken, Turned}
-use Rattle.block.specs.declared.Read.{Read}
-use Rattle.block.specs.declared.Read.TheVariants.{Ended, Refused}
+use Rattle.refusals.specs.declared.Refusal.{Refusal}
+use Rattle.refusals.specs.declared.Refusal.TheVariants.{Opening, Trailing}
 use Rattle.block.specs.declared.Run.{Run}
 use Rattle.block.specs.declared.Part.{Part}
 use Rattle.block.specs.declared.Part.TheVariants.{First, Sizes, Limits, Vector}
@@ -26,6 +21,18 @@ abbrev pub opening : Layout → List ℕ
 opening Base = 0x43 ∷ 0x42 ∷ 0x52 ∷ 0x31 ∷ []
 opening Weakened = 0x43 ∷ 0x42 ∷ 0x52 ∷ 0x32 ∷ []
 opening Owned = 0x43 ∷ 0x42 ∷ 0x52 ∷ 0x33 ∷ []
+
+-- The number that tells an opening: its last byte less 0x30
+abbrev pub opening_number : Layout → ℕ
+opening_number Base = 1
+opening_number Weakened = 2
+opening_number Owned = 3
+
+-- The layout that a number tells: "(1 if unknown)"
+abbrev pub told_by : ℕ → Result Layout Refusal
+told_by number =
+    cond (eqb number (opening_number Base)) (Ok Base)
+    (cond (eqb number (opening_number Weakened)) (Ok Weakened) (cond (eqb number (opening_number Owned)) (Ok Owned) (Err Opening)))
 
 -- How many numbers W stand "directly after C"
 abbrev pub weak_count : Layout → ℕ
@@ -51,15 +58,22 @@ share_place layout = 4 + weak_count layout
 abbrev pub header_size : Layout → ℕ
 header_size layout = 5 + weak_count layout
 
+-- A number taken and the place after it, or why the record is turned back there
+abbrev pub One : Type 0
+One = Result (ℤ × ℕ) Refusal
+
+-- The place where the numbers ended, or why the record is turned back
+abbrev pub Read : Type 0
+Read = Result ℕ Refusal
+
 -- A number that was read, unfolded where its kind is folded
 abbrev pub whole_of : Kind → ℕ → ℤ
 whole_of k n = cond (is_folded k) (unfolded n) (pos n)
 
 -- and ranged
 unfoldable pub by_number : Kind → Number → One
-by_number k (Value n next) = cond (allowed k (whole_of k n)) (Taken (whole_of k n) next) (Turned (refusal_of k (whole_of k n)))
-by_number k Short = Turned Ends
-by_number k Malformed = Turned NoNumber
+by_number k (Ok (n, next)) = cond (allowed k (whole_of k n)) (Ok (whole_of k n, next)) (Err (refusal_of k (whole_of k n)))
+by_number k (Err e) = Err (unreadable e)
 
 -- One number of a kind at a place: "each number is read, then ranged"
 abbrev pub one_at : Kind → List ℕ → ℕ → One
@@ -67,7 +81,7 @@ one_at k bytes at = by_number k (number_at bytes at)
 
 -- Below a bound, a number of a kind is folded and in its range
 pub record Sure (k : Kind) (bound : ℕ) : Type 0 where
-  pub taken : (n next : ℕ) → n < bound → by_number k (Value n next) ≡ Taken (unfolded n) next
+  pub taken : (n next : ℕ) → n < bound → by_number k (Ok (n, next)) ≡ Ok (unfolded n, next)
 
 -- What was read: the whole numbers taken, and how it ended
 pub record Parse : Type 0 where
@@ -75,18 +89,18 @@ pub record Parse : Type 0 where
   pub read : Read
 
 abbrev pub by_one : (ℕ → Parse) → One → Parse
-by_one further (Taken z next) = record { numbers = z ∷ (further next).numbers; read = (further next).read }
-by_one further (Turned r) = record { numbers = []; read = Refused r }
+by_one further (Ok (z, next)) = record { numbers = z ∷ (further next).numbers; read = (further next).read }
+by_one further (Err r) = record { numbers = []; read = Err r }
 
 -- Numbers of some kinds, one after the other, from a place on
 unfoldable pub numbers_at : List Kind → List ℕ → ℕ → Parse
-numbers_at [] bytes at = record { numbers = []; read = Ended at }
+numbers_at [] bytes at = record { numbers = []; read = Ok at }
 numbers_at (k ∷ ks) bytes at = by_one (numbers_at ks bytes) (one_at k bytes at)
 
 -- Some numbers and, unless they were turned back, what they call for
 abbrev pub by_read : List ℤ → (List ℤ → ℕ → Parse) → Read → Parse
-by_read numbers further (Ended at) = record { numbers = numbers ++ (further numbers at).numbers; read = (further numbers at).read }
-by_read numbers further (Refused r) = record { numbers = numbers; read = Refused r }
+by_read numbers further (Ok at) = record { numbers = numbers ++ (further numbers at).numbers; read = (further numbers at).read }
+by_read numbers further (Err r) = record { numbers = numbers; read = Err r }
 
 abbrev pub and_then : Parse → (List ℤ → ℕ → Parse) → Parse
 and_then p further = by_read p.numbers further p.read
@@ -191,7 +205,7 @@ stages layout = stream_stage ∷ size_stage ∷ limit_stage layout ∷ vector_st
 
 -- The numbers of some stages, behind those that are known
 unfoldable pub stages_at : List (List ℤ → List Kind) → List ℤ → List ℕ → ℕ → Parse
-stages_at [] known bytes at = record { numbers = []; read = Ended at }
+stages_at [] known bytes at = record { numbers = []; read = Ok at }
 stages_at (s ∷ later) known bytes at =
     and_then (numbers_at (s known) bytes at) (λ numbers next. stages_at later (known ++ numbers) bytes next)
 
@@ -199,12 +213,12 @@ stages_at (s ∷ later) known bytes at =
 unfoldable pub read_record : List ℕ → Parse
 read_record bytes =
     let layout = layout_of bytes in
-    cond (starts_with (opening layout) bytes) (stages_at (stages layout) [] bytes 4) (record { numbers = []; read = Refused Opening })
+    cond (starts_with (opening layout) bytes) (stages_at (stages layout) [] bytes 4) (record { numbers = []; read = Err Opening })
 
 -- "bytes follow the last prior"
 abbrev pub at_end : ℕ → Read → Read
-at_end n (Ended at) = cond (ltb at n) (Refused Trailing) (Ended at)
-at_end n (Refused r) = Refused r
+at_end n (Ok at) = cond (ltb at n) (Err Trailing) (Ok at)
+at_end n (Err r) = Err r
 
 -- A record that is the whole of its bytes
 unfoldable pub read_whole : List ℕ → Parse

@@ -6,9 +6,8 @@ mod order;
 
 ghost use Rattle.std.specs.Prelude.{◌≡◌, ◌+◌, ◌*◌, ◌<◌, ◌≤◌, nat_abs, length};
 ghost use Rattle.model.specs.Block.{most_streams, most_vectors, most_width};
-ghost use Rattle.block.specs.Reading.{count_at, header_size, opening, own_count, owned_size, share_place, vector_size, weak_count, weak_place};
+ghost use Rattle.block.specs.Reading.{count_at, header_size, opening, own_count, owned_size, share_place, told_by, vector_size, weak_count, weak_place};
 
-pub use order::{run_at, run_count};
 use refusals::{Kind, Refusal};
 
 // How many whole numbers a record has at most: 6 and 49 for each of 64 vectors.
@@ -19,25 +18,11 @@ pub const MOST_BYTES: usize = 8275;
 
 // The layouts of a record, which its opening tells: document 01's; document 02's, in which W follows C; and the one in which, besides, an owner's
 // number stands before each vector.
-#[derive(Clone, Copy)]
+#[derive(Clone, Copy, Debug, PartialEq, Eq)]
 pub enum Layout {
     Base,
     Weakened,
     Owned,
-}
-
-// A number taken and the place after it, or why the record is turned back there.
-#[derive(Clone, Copy)]
-pub enum One {
-    Taken(i32, usize),
-    Turned(Refusal),
-}
-
-// The place where the numbers ended, or why the record is turned back.
-#[derive(Clone, Copy)]
-pub enum Read {
-    Ended(usize),
-    Refused(Refusal),
 }
 
 // Numbers of one kind side by side.
@@ -56,65 +41,83 @@ pub enum Part {
     Vector(usize, usize, usize),
 }
 
-// The four bytes that a record of a layout opens with.
-pub fn opening(layout: Layout) -> [u8; 4]
-    ensures { result ≡ opening layout }
-{
-    match layout {
-        Layout::Base => [0x43, 0x42, 0x52, 0x31],
-        Layout::Weakened => [0x43, 0x42, 0x52, 0x32],
-        Layout::Owned => [0x43, 0x42, 0x52, 0x33],
+impl Layout {
+    // The four bytes that a record of this layout opens with.
+    pub fn opening(self) -> [u8; 4]
+        ensures { result ≡ opening self }
+    {
+        match self {
+            Layout::Base => [0x43, 0x42, 0x52, 0x31],
+            Layout::Weakened => [0x43, 0x42, 0x52, 0x32],
+            Layout::Owned => [0x43, 0x42, 0x52, 0x33],
+        }
+    }
+
+    // How many numbers W it has.
+    pub fn weak_count(self) -> usize
+        ensures { result ≡ weak_count self }
+    {
+        match self {
+            Layout::Base => 0,
+            Layout::Weakened => 1,
+            Layout::Owned => 1,
+        }
+    }
+
+    // How many owner numbers stand before each of its vectors.
+    pub fn own_count(self) -> usize
+        ensures { result ≡ own_count self }
+    {
+        match self {
+            Layout::Base => 0,
+            Layout::Weakened => 0,
+            Layout::Owned => 1,
+        }
+    }
+
+    // The place of W among its numbers: that of C, where there is no other.
+    pub fn weak_place(self) -> usize
+        ensures { result ≡ weak_place self }
+    {
+        3 + self.weak_count()
+    }
+
+    // The place of D.
+    pub fn share_place(self) -> usize
+        ensures { result ≡ share_place self }
+    {
+        4 + self.weak_count()
+    }
+
+    // How many numbers stand before the first vector.
+    pub fn header_size(self) -> usize
+        ensures { result ≡ header_size self }
+    {
+        5 + self.weak_count()
     }
 }
 
-// How many numbers W it has.
-pub fn weak_count(layout: Layout) -> usize
-    ensures { result ≡ weak_count layout }
-{
-    match layout {
-        Layout::Base => 0,
-        Layout::Weakened => 1,
-        Layout::Owned => 1,
+// The layout that a number tells: its opening's last byte less 0x30.
+impl TryFrom<u32> for Layout {
+    type Error = Refusal;
+
+    ghost try_from_gives = { λ number told. told ≡ told_by number };
+
+    fn try_from(number: u32) -> Result<Layout, Refusal> {
+        match number {
+            1 => Ok(Layout::Base),
+            2 => Ok(Layout::Weakened),
+            3 => Ok(Layout::Owned),
+            _ => Err(Refusal::Opening),
+        }
     }
-}
-
-// How many owner numbers stand before each of its vectors.
-pub fn own_count(layout: Layout) -> usize
-    ensures { result ≡ own_count layout }
-{
-    match layout {
-        Layout::Base => 0,
-        Layout::Weakened => 0,
-        Layout::Owned => 1,
-    }
-}
-
-// The place of W among its numbers: that of C, where there is no other.
-pub fn weak_place(layout: Layout) -> usize
-    ensures { result ≡ weak_place layout }
-{
-    3 + weak_count(layout)
-}
-
-// The place of D.
-pub fn share_place(layout: Layout) -> usize
-    ensures { result ≡ share_place layout }
-{
-    4 + weak_count(layout)
-}
-
-// How many numbers stand before the first vector.
-pub fn header_size(layout: Layout) -> usize
-    ensures { result ≡ header_size layout }
-{
-    5 + weak_count(layout)
 }
 
 // A count, of a number that is none below 0.
 pub fn count_of(z: i32) -> usize
     ensures { result ≡ nat_abs z }
 {
-    integers::magnitude(z as i64) as usize
+    z.unsigned_abs() as usize
 }
 
 // The i-th number of a list, which is a count.
@@ -138,5 +141,5 @@ pub fn vector_start(layout: Layout, m: usize, q: usize, k: usize) -> usize
     requires { (m ≤ most_streams) × (q ≤ most_width) × (k ≤ most_vectors) }
     ensures { result ≡ header_size layout + k * owned_size (own_count layout) m q }
 {
-    header_size(layout) + k * (own_count(layout) + vector_size(m, q))
+    layout.header_size() + k * (layout.own_count() + vector_size(m, q))
 }

@@ -86,31 +86,33 @@ fn owned_run(n: usize, m: usize, q: usize, i: usize) -> Run
     vector_run(m, q, i - 1)
 }
 
-// How many runs a part has.
-pub fn run_count(part: Part) -> usize
-    requires { Small part }
-    ensures { result ≡ length (runs_of part) }
-{
-    match part {
-        Part::First => 1,
-        Part::Sizes(_) => 3,
-        Part::Limits(_, _, _) => 2,
-        Part::Vector(_, m, _) => 2 * m + 3,
+impl Part {
+    // How many runs it has.
+    pub fn run_count(self) -> usize
+        requires { Small self }
+        ensures { result ≡ length (runs_of self) }
+    {
+        match self {
+            Part::First => 1,
+            Part::Sizes(_) => 3,
+            Part::Limits(_, _, _) => 2,
+            Part::Vector(_, m, _) => 2 * m + 3,
+        }
     }
-}
 
-// The i-th run of a part.
-pub fn run_at(part: Part, i: usize) -> Run
-    requires { Small part × (i < length (runs_of part)) }
-    ensures { result ≡ get_or (runs_of part) i no_run }
-{
-    match part {
-        Part::First => Run {
-            kind: Kind::StreamCount,
-            count: 1,
-        },
-        Part::Sizes(m) => size_run(m, i),
-        Part::Limits(n, m, c) => limit_run(n, m, c, i),
-        Part::Vector(n, m, q) => owned_run(n, m, q, i),
+    // The i-th of them.
+    pub fn run_at(self, i: usize) -> Run
+        requires { Small self × (i < length (runs_of self)) }
+        ensures { result ≡ get_or (runs_of self) i no_run }
+    {
+        match self {
+            Part::First => Run {
+                kind: Kind::StreamCount,
+                count: 1,
+            },
+            Part::Sizes(m) => size_run(m, i),
+            Part::Limits(n, m, c) => limit_run(n, m, c, i),
+            Part::Vector(n, m, q) => owned_run(n, m, q, i),
+        }
     }
 }

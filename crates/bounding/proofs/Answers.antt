@@ -1,18 +1,18 @@
 -- The two tests turn by turn, and what their false answers mean: every child would be cut.
 use Prim.Native.Nat.{ℕ, zero, suc, ◌+◌, ◌-◌, ◌*◌, ◌/◌, ◌%◌, ◌^◌, ◌≤◌, ◌<◌, min}
-use mathlib.Core.Path.{◌≡◌, refl, sym, ◌∙◌, ap, ap₂, subst}
-use mathlib.Core.Bool.{Bool, true, false, ◌&&◌, ◌||◌}
+use mathlib.Core.Path.{◌≡◌, refl, sym, ◌∙◌, ap, subst}
+use mathlib.Core.Bool.{Bool, true, false, ◌&&◌, ◌||◌, or_assoc}
 use mathlib.Core.List.{List}
 use mathlib.Core.Logic.{◌⊎◌, inl, inr, ⊎_elim}
-use native.Mathlib.Nat.{le_refl, eq-or-lt_of_le}
+use native.Mathlib.Nat.{add_assoc, le_refl, eq-or-lt_of_le}
 use native.Mathlib.Omega.{arith}
 use borrow.Author.Tests.{ltb-false, lt-ltb, le-ltb}
-use lib.Bits.{bit_xor}
 use lib.Dec.{ltb}
 use lib.IntN.{ℤ, pos, nat_abs, ◌-ℤ◌}
-use lib.ListN.{get_or}
+use lib.ListN.{get_or, take, drop}
 use lib.Pow.{pow_pos}
 use Rattle.model.specs.Constellation.{bits_of}
+use Rattle.model.specs.Block.{most_width}
 use Rattle.model.specs.Soft.{up_from}
 use Rattle.model.proofs.Lists.{or_left, or_right, and_cases, any_false, in-up_from}
 use Rattle.model.proofs.Numbers.{first_half}
@@ -26,34 +26,41 @@ use Rattle.bounding.specs.Cut.{OpensAsked, Widest, Beyond}
 use Rattle.bounding.specs.Axes.{BitAsked}
 use Rattle.bounding.specs.Answers.{reached_by, bits_open, any_bit, over_at, any_part, least_part, opened, some_child_may_pass, some_child_may_pass_by_parts}
 use Rattle.bounding.proofs.Runs.{NoneOver, LeastOf, least_more}
+use Rattle.bounding.proofs.Cuts.{bit_cut, part_cut, least_cut}
 use Rattle.bounding.proofs.Halves.{imaginary_lt, none_wider, parts_beyond}
 use Rattle.bounding.proofs.Bits.{NoFurther, BitHeld, none_folded, fold_turn, bit_turn, bits_over}
 use Rattle.bounding.proofs.Near.{square_small, near_small, bit_asked, none_wide, all_beyond}
 
--- The answer of either test, by the ways in which it is given
+-- The answer of either test by the base and the first axis: below the base, or the axis is asked, or it is not
+module _ (base low widest : ℕ) (any : Bool) where
+  abbrev pub begun : Bool
+  begun = ltb low base || (ltb low widest && any)
+
+  pub begun_base : low < base → ltb low base ≡ begun
+  begun_base h = rw (lt-ltb low base h) refl
+
+  pub begun_asked : base ≤ low → low < widest → any ≡ begun
+  begun_asked h k = rw (le-ltb low base h, lt-ltb low widest k) refl
+
+  pub begun_unasked : base ≤ low → widest ≤ low → ltb low widest ≡ begun
+  begun_unasked h k = rw (le-ltb low base h, le-ltb low widest k) refl
+
+-- and then by the second
 module _ (base low widest : ℕ) (any : Bool) (wider : ℕ) (more : Bool) where
-  pub open_base : low < base → true ≡ opened base low widest any wider more
-  open_base h = sym (ap (λ (t : Bool). t || ((ltb low widest && any) || (ltb low wider && more))) (lt-ltb low base h))
+  parted : opened base low widest any wider more ≡ (begun base low widest any || (ltb low wider && more))
+  parted = sym (or_assoc (ltb low base) (ltb low widest && any) (ltb low wider && more))
 
-  pub open_first : base ≤ low → low < widest → any ≡ true → true ≡ opened base low widest any wider more
-  open_first h k e =
-      sym (ap₂ (λ (s t : Bool). s || (t || (ltb low wider && more))) (le-ltb low base h) (ap₂ ◌&&◌ (lt-ltb low widest k) e))
+  pub first_open : begun base low widest any ≡ true → true ≡ opened base low widest any wider more
+  first_open e = sym (parted ∙ ap (λ (t : Bool). t || (ltb low wider && more)) e)
 
-  -- The first axis opens nothing: it was not asked, or it was
-  pub first_unasked : widest ≤ low → (ltb low widest && any) ≡ false
-  first_unasked h = ap (λ (t : Bool). t && any) (le-ltb low widest h)
+  second_left : begun base low widest any ≡ false → opened base low widest any wider more ≡ (ltb low wider && more)
+  second_left e = parted ∙ ap (λ (t : Bool). t || (ltb low wider && more)) e
 
-  pub first_asked : low < widest → any ≡ false → (ltb low widest && any) ≡ false
-  first_asked h e = ap₂ ◌&&◌ (lt-ltb low widest h) e
+  pub second_unasked : begun base low widest any ≡ false → wider ≤ low → ltb low wider ≡ opened base low widest any wider more
+  second_unasked e k = let f = le-ltb low wider k in f ∙ sym (second_left e ∙ ap (λ (t : Bool). t && more) f)
 
-  second_left : base ≤ low → (ltb low widest && any) ≡ false → opened base low widest any wider more ≡ (ltb low wider && more)
-  second_left h e = ap₂ (λ (s t : Bool). s || (t || (ltb low wider && more))) (le-ltb low base h) e
-
-  pub second_unasked : base ≤ low → (ltb low widest && any) ≡ false → wider ≤ low → false ≡ opened base low widest any wider more
-  second_unasked h e k = sym (second_left h e ∙ ap (λ (t : Bool). t && more) (le-ltb low wider k))
-
-  pub second_asked : base ≤ low → (ltb low widest && any) ≡ false → low < wider → more ≡ opened base low widest any wider more
-  second_asked h e k = sym (second_left h e ∙ ap (λ (t : Bool). t && more) (lt-ltb low wider k))
+  pub second_asked : begun base low widest any ≡ false → low < wider → more ≡ opened base low widest any wider more
+  second_asked e k = sym (second_left e ∙ ap (λ (t : Bool). t && more) (lt-ltb low wider k))
 
   -- What its false answer says
   pub shut_base : opened base low widest any wider more ≡ false → base ≤ low
@@ -70,28 +77,23 @@ module _ (base low widest : ℕ) (any : Bool) (wider : ℕ) (more : Bool) where
 
 -- One bit of an axis
 module _ (diagonal w other low : ℕ) (entries : List ℕ) (from own : ℕ) where
-  -- Where bits i on are left of an answer, x remains, and the nearest label with the opposite bit comes to r
-  module _ (whole : Bool) (i : ℕ) (x : ℤ) (left : whole ≡ bits_open diagonal w other low entries from own (w - i) x) (h : i < w)
-      (r place : ℕ) (is : r ≡ reached_by diagonal w other low own i x) (here : place ≡ from + 2 ^ (w - suc i)) where
+  -- Where the last n bits are left of an answer, x remains, and the nearest label with the opposite bit comes to r
+  module _ (whole : Bool) (n k : ℕ) (x : ℤ) (left : whole ≡ bits_open diagonal w other low entries from own n x) (last : n ≡ suc k) (r place : ℕ)
+      (is : r ≡ reached_by diagonal w other low own (w - suc k) x) (here : place ≡ from + 2 ^ k) where
     abbrev next : ℤ
-    next = pos (diagonal * 2 ^ (w - suc i)) -ℤ pos (nat_abs x)
+    next = pos (diagonal * 2 ^ k) -ℤ pos (nat_abs x)
 
-    bit_step : whole ≡ (ltb r (get_or entries place 0) || bits_open diagonal w other low entries from own (w - (i + 1)) next)
+    bit_step : whole ≡ (ltb r (get_or entries place 0) || bits_open diagonal w other low entries from own k next)
     unfolding bits_open
-    bit_step =
-        let e : w - i ≡ suc (w - suc i) = omega arith in
-        let f : w - (i + 1) ≡ w - suc i = omega arith in
-        let g : w - suc (w - suc i) ≡ i = omega arith in
-        left ∙ (rw (is, here, e, f, g) refl)
+    bit_step = left ∙ (rw (is, here, last) refl)
 
     -- the bit's limit is above that,
     pub bit_open : r < get_or entries place 0 → true ≡ whole
-    bit_open over =
-        sym (bit_step ∙ ap (λ (t : Bool). t || bits_open diagonal w other low entries from own (w - (i + 1)) next) (lt-ltb _ _ over))
+    bit_open over = sym (bit_step ∙ ap (λ (t : Bool). t || bits_open diagonal w other low entries from own k next) (lt-ltb _ _ over))
 
     -- or it is not
-    pub bit_past : get_or entries place 0 ≤ r → whole ≡ bits_open diagonal w other low entries from own (w - (i + 1)) next
-    bit_past under = bit_step ∙ ap (λ (t : Bool). t || bits_open diagonal w other low entries from own (w - (i + 1)) next) (le-ltb _ _ under)
+    pub bit_past : get_or entries place 0 ≤ r → whole ≡ bits_open diagonal w other low entries from own k next
+    bit_past under = bit_step ∙ ap (λ (t : Bool). t || bits_open diagonal w other low entries from own k next) (le-ltb _ _ under)
 
   -- Where the rest of the bits opens nothing, no label is below the limit of one in which it differs from own
   bits_held : {left : ℤ} → BitAsked left diagonal w other low entries from own → (k : ℕ) (x : ℤ) → k ≤ w → NoFurther left diagonal w x k
@@ -129,49 +131,12 @@ module _ (diagonal w other low : ℕ) (entries : List ℕ) (from own : ℕ) wher
 
 -- The parts of an axis
 module _ (entries : List ℕ) (from : ℕ) (part : ℕ → ℕ) (other own : ℕ) where
-  -- Where the labels from g on are left, of n, and the part of g is p
-  module _ (g n : ℕ) (left : any_part entries from part other own 0 n ≡ any_part entries from part other own g (n - g)) where
-    part_step : g < n
-        → any_part entries from part other own 0 n
-        ≡ (over_at entries from part other own g || any_part entries from part other own (g + 1) (n - (g + 1)))
-    unfolding any_part up_from
-    part_step h =
-        let e : n - g ≡ suc (n - (g + 1)) = omega arith in
-        let f : g + 1 ≡ suc g = omega arith in
-        left ∙ (rw (e, f) refl)
-
-    -- it is below its entry,
-    pub part_open : g < n → (p : ℕ) → p ≡ part g → other + p < get_or entries (from + bit_xor g own) 0
-        → true ≡ any_part entries from part other own 0 n
-    part_open h p is over =
-        sym (part_step h ∙ ap (λ (t : Bool). t || any_part entries from part other own (g + 1) (n - (g + 1))) (lt-ltb _ _ (rw is at over)))
-
-    -- or it is not,
-    pub part_past : g < n → (p : ℕ) → p ≡ part g → get_or entries (from + bit_xor g own) 0 ≤ other + p
-        → any_part entries from part other own 0 n ≡ any_part entries from part other own (g + 1) (n - (g + 1))
-    part_past h p is under =
-        part_step h ∙ ap (λ (t : Bool). t || any_part entries from part other own (g + 1) (n - (g + 1))) (le-ltb _ _ (rw is at under))
-
-    -- or none is left
-    pub part_end : n ≤ g → false ≡ any_part entries from part other own 0 n
-    unfolding any_part up_from
-    part_end h = let e : n - g ≡ 0 = omega arith in sym (left ∙ (rw e refl))
-
   -- Where none is below its entry
   pub parts_shut : (n : ℕ) → any_part entries from part other own 0 n ≡ false → NoneOver entries from n part other own
   unfolding any_part
   parts_shut n e g h = ltb-false _ _ (any_false (over_at entries from part other own) (up_from 0 n) g e (in-up_from 0 n g (omega arith) (omega arith)))
 
--- The least of one part more, as it is found
-pub least_next : (part : ℕ → ℕ) (g : ℕ) → 1 ≤ g → (least new : ℕ) → least ≡ least_part part (g - 1) → new ≡ min least (part g)
-    → new ≡ least_part part (g + 1 - 1)
-unfolding least_part
-least_next part g h least new was is =
-    let e : g + 1 - 1 ≡ suc (g - 1) = omega arith in
-    let f : suc (g - 1) ≡ g = omega arith in
-    is ∙ ap₂ min was (ap part (sym f)) ∙ ap (least_part part) (sym e)
-
--- It is not above any, and small where they are
+-- The least part is not above any, and small where they are
 least_to : (part : ℕ → ℕ) (n : ℕ) → ((g : ℕ) → g < suc n → part g < 2 ^ 62) → LeastOf part (suc n) (least_part part n)
 unfolding least_part
 least_to part zero small = record {
@@ -187,29 +152,44 @@ least_of_lem part n some small =
     let e : suc (n - 1) ≡ n = omega arith in
     subst (λ (k : ℕ). LeastOf part k (least_part part (n - 1))) e (least_to part (n - 1) (λ g h. small g (omega arith)))
 
--- The test by distances, from the numbers that it works out
-pub opens_by : (m q row : ℕ) (re im : ℤ) (partial base : ℕ) (numbers : List ℤ) (entries : List ℕ) (own diagonal near_re near_im last wide : ℕ)
-    → diagonal ≡ nat_abs (get_or numbers (row_start m row) (pos 0)) → near_re ≡ nearest_of diagonal (q - q / 2) (nat_abs re)
-    → near_im ≡ nearest_of diagonal (q / 2) (nat_abs im) → last ≡ 2 ^ (q - q / 2) - 1 → wide ≡ span + (2 ^ (q / 2) - 1)
-    → let low = partial + near_re * near_re + near_im * near_im in
-    opened base low (get_or entries last 0)
-    (any_bit re diagonal (q - q / 2) (partial + near_im * near_im) low entries 0 (own / 2 ^ (q / 2))) (get_or entries wide 0)
-    (any_bit im diagonal (q / 2) (partial + near_re * near_re) low entries span (own % 2 ^ (q / 2)))
+-- The test by distances, from what is asked of each axis in its own half of the limits
+pub opens_by : (m q row : ℕ) (re im : ℤ) (partial base : ℕ) (numbers : List ℤ) (entries : List ℕ) (own diagonal : ℕ) → q ≤ most_width
+    → diagonal ≡ nat_abs (get_or numbers (row_start m row) (pos 0))
+    → let near_re = nearest_of diagonal (q - q / 2) (nat_abs re) in
+    let near_im = nearest_of diagonal (q / 2) (nat_abs im) in
+    let low = partial + (near_re * near_re + near_im * near_im) in
+    opened base low (get_or entries (2 ^ (q - q / 2) - 1) 0)
+    (any_bit re diagonal (q - q / 2) (partial + near_im * near_im) low (take span entries) 0 (own / 2 ^ (q / 2))) (get_or entries (span + (2 ^ (q / 2) - 1)) 0)
+    (any_bit im diagonal (q / 2) (partial + near_re * near_re) low (take span (drop span entries)) 0 (own % 2 ^ (q / 2)))
     ≡ some_child_may_pass m q row re im partial base numbers entries own
 unfolding some_child_may_pass
-opens_by m q row re im partial base numbers entries own diagonal near_re near_im last wide stands is-re is-im here there =
-    rw (is-re, is-im, here, there, stands) refl
+opens_by m q row re im partial base numbers entries own diagonal h stands =
+    let near_re = nearest_of diagonal (q - q / 2) (nat_abs re) in
+    let near_im = nearest_of diagonal (q / 2) (nat_abs im) in
+    rw (
+      ← add_assoc partial (near_re * near_re) (near_im * near_im),
+      bit_cut entries 0 re diagonal (q - q / 2) (partial + near_im * near_im) (partial + near_re * near_re + near_im * near_im) (own / 2 ^ (q / 2)) (axis_few q real h),
+      bit_cut entries span im diagonal (q / 2) (partial + near_re * near_re) (partial + near_re * near_re + near_im * near_im) (own % 2 ^ (q / 2)) (axis_few q imaginary h),
+      stands,
+    ) refl
 
--- and that by the parts
-pub parts_by : (q partial base : ℕ) (re im : ℕ → ℕ) (entries : List ℕ) (own least-re least-im last wide : ℕ)
-    → least-re ≡ least_part re (2 ^ (q - q / 2) - 1) → least-im ≡ least_part im (2 ^ (q / 2) - 1)
-    → last ≡ 2 ^ (q - q / 2) - 1 → wide ≡ span + (2 ^ (q / 2) - 1)
-    → opened base (partial + (least-re + least-im)) (get_or entries last 0)
-    (any_part entries 0 re (partial + least-im) (own / 2 ^ (q / 2)) 0 (2 ^ (q - q / 2))) (get_or entries wide 0)
-    (any_part entries span im (partial + least-re) (own % 2 ^ (q / 2)) 0 (2 ^ (q / 2)))
+-- and that by the parts, by rules that agree with those of the table on each axis's labels
+pub parts_by : (q partial base : ℕ) (re im re' im' : ℕ → ℕ) (entries : List ℕ) (own : ℕ) → q ≤ most_width → own < 2 ^ q
+    → ((g : ℕ) → g < 2 ^ (q - q / 2) → re' g ≡ re g) → ((g : ℕ) → g < 2 ^ (q / 2) → im' g ≡ im g)
+    → let least-re = least_part re' (2 ^ (q - q / 2) - 1) in
+    let least-im = least_part im' (2 ^ (q / 2) - 1) in
+    opened base (partial + (least-re + least-im)) (get_or entries (2 ^ (q - q / 2) - 1) 0)
+    (any_part (take span entries) 0 re' (partial + least-im) (own / 2 ^ (q / 2)) 0 (2 ^ (q - q / 2))) (get_or entries (span + (2 ^ (q / 2) - 1)) 0)
+    (any_part (take span (drop span entries)) 0 im' (partial + least-re) (own % 2 ^ (q / 2)) 0 (2 ^ (q / 2)))
     ≡ some_child_may_pass_by_parts q partial base re im entries own
 unfolding some_child_may_pass_by_parts
-parts_by q partial base re im entries own least-re least-im last wide is-re is-im here there = rw (is-re, is-im, here, there) refl
+parts_by q partial base re im re' im' entries own h symbol same-re same-im =
+    rw (
+      least_cut re' re (2 ^ (q - q / 2) - 1) (λ g k. same-re g (omega (arith, pow_pos (q - q / 2)))),
+      least_cut im' im (2 ^ (q / 2) - 1) (λ g k. same-im g (omega (arith, pow_pos (q / 2)))),
+      part_cut entries 0 re' re (partial + least_part im (2 ^ (q / 2) - 1)) (own / 2 ^ (q / 2)) (q - q / 2) same-re (axis_few q real h) (first_half q own symbol),
+      part_cut entries span im' im (partial + least_part re (2 ^ (q - q / 2) - 1)) (own % 2 ^ (q / 2)) (q / 2) same-im (axis_few q imaginary h) (imaginary_lt q own),
+    ) refl
 
 -- Where the test by distances is asked, and is false, every child would be cut
 module _ {m q row : ℕ} {re im : ℤ} {partial : ℕ} {numbers : List ℤ} {entries : List ℕ} {own : ℕ}

@@ -6,7 +6,7 @@ use mathlib.Core.Bool.{Bool, true, false, cond, not, beq}
 use mathlib.Core.List.{List}
 use native.Mathlib.Nat.{le_refl, le_trans, mul-le-mul}
 use native.Mathlib.Omega.{arith}
-use lib.Bits.{bit_xor, xor_lt}
+use lib.Bits.{bit_and, bit_xor, and_mask, xor_lt}
 use lib.Dec.{T, eqb}
 use lib.IntN.{ℤ, pos, nat_abs, ◌-ℤ◌, ◌*ℤ◌}
 use lib.ListN.{get_or}
@@ -29,6 +29,13 @@ NoFurther left diagonal w x k =
 abbrev pub BitHeld : List ℕ → ℕ → ℕ → (ℕ → ℕ) → ℕ → ℕ → ℕ → Type 0
 BitHeld entries from w part other own j =
     (g : ℕ) → bit_of w (bit_xor g own) j ≡ true → get_or entries (from + 2 ^ (w - suc j)) 0 ≤ other + part g
+
+-- The bit that has k bits after it, as it is read
+pub bit_read : (w own k : ℕ) → k < w → eqb (bit_and (own / 2 ^ k) 1) 1 ≡ bit_of w own (w - suc k)
+unfolding bit_of
+bit_read w own k h =
+    let e : w - suc (w - suc k) ≡ k = omega arith in
+    rw (e, and_mask (own / 2 ^ k) 1) refl
 
 -- Before the first fold
 pub none_folded : (left : ℤ) (diagonal w : ℕ) → NoFurther left diagonal w left (w - 0)

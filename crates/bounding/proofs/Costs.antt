@@ -1,5 +1,5 @@
 -- Whether a label has a cost.
-use Prim.Native.Nat.{ℕ, suc, ◌+◌}
+use Prim.Native.Nat.{ℕ, suc, ◌+◌, ◌-◌, ◌^◌, ◌≤◌}
 use mathlib.Core.Path.{◌≡◌, refl, ap, ◌∙◌, sym}
 use mathlib.Core.Bool.{Bool, true, false, not, ◌||◌}
 use mathlib.Core.List.{List}
@@ -10,8 +10,10 @@ use lib.IntN.{ℤ, pos, negsuc, nat_abs}
 use lib.ListN.{get_or}
 use mir.Syntax.{w32}
 use mir.Val.{SFits, of_z}
-use Rattle.metric.specs.Parts.{span}
-use Rattle.bounding.specs.Axes.{has_cost}
+use Rattle.metric.specs.Parts.{axis_width, span}
+use Rattle.bounding.specs.Axes.{has_cost, axis_priced}
+use Rattle.bounding.proofs.Runs.{labels_few}
+use Rattle.bounding.proofs.Cuts.{own_entries, cost_cut}
 
 -- A number of 32 bits is not 0 where its bits are not
 bits_same : (z : ℤ) → SFits w32 z → not (eqb (of_z w32 z) 0) ≡ not (eqb (nat_abs z) 0)
@@ -30,3 +32,10 @@ first_met a b e = rw e refl
 
 pub second_left : (a b : Bool) → a ≡ false → b ≡ (a || b)
 second_left a b e = rw e refl
+
+-- Of an axis's own entries, whether its labels have costs is as it is of the table's
+pub priced_cut : (tables : List ℤ) (at w : ℕ) → w ≤ axis_width → axis_priced (own_entries tables at) 0 w ≡ axis_priced tables at w
+unfolding axis_priced
+priced_cut tables at w h =
+    let few = labels_few w h in
+    rw (cost_cut tables at 0 (omega arith), cost_cut tables at (2 ^ w - 1) (omega (arith, few))) refl

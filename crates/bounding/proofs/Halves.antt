@@ -8,9 +8,8 @@ use lib.Bits.{bit_xor, bit_and, and_mask, xor_lt, xor_shr, xor_mod}
 use lib.ListN.{get_or}
 use lib.Pow.{pow_pos}
 use Rattle.model.specs.Block.{most_width}
-use Rattle.metric.specs.Parts.{span, child_metric}
+use Rattle.metric.specs.Parts.{axis_width, span, child_metric}
 use Rattle.axes.specs.Tables.{Axis, axis_bits}
-use Rattle.axes.specs.Tables.Axis.{imaginary}
 use Rattle.axes.proofs.Tables.{axis_few}
 use Rattle.model.proofs.Numbers.{first_half}
 use Rattle.bounding.specs.Cut.{symbol_reach, Beyond}
@@ -26,8 +25,8 @@ pub labels : (q : ℕ) (x : Axis) → q ≤ most_width
 labels q x h = labels_few (axis_bits q x) (axis_few q x h)
 
 -- The low bits of a symbol are its imaginary label
-pub masked : (q own : ℕ) → q ≤ most_width → bit_and own (1 * 2 ^ (q / 2) % 2 ^ 64 - 1) ≡ own % 2 ^ (q / 2)
-masked q own h = rw (labels q imaginary h).0 (and_mask own (q / 2))
+pub masked : (w own : ℕ) → w ≤ axis_width → bit_and own (1 * 2 ^ w % 2 ^ 64 - 1) ≡ own % 2 ^ w
+masked w own h = rw (labels_few w h).0 (and_mask own w)
 
 -- With the parts of either axis, by a rule
 module _ (q : ℕ) (re im : ℕ → ℕ) (row column : ℕ) where

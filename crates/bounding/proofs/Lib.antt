@@ -5,3 +5,4 @@ pub mod Near
 pub mod Answers
 pub mod Parts
 mod Costs
+pub mod Cuts

@@ -1,18 +1,21 @@
--- An axis's labels: a run of them grown by one, the least of its parts, and the places of a label's entries.
-use Prim.Native.Nat.{ℕ, ◌+◌, ◌*◌, ◌%◌, ◌^◌, ◌≤◌, ◌<◌}
-use mathlib.Core.Path.{◌≡◌}
+-- An axis's labels: a run of them grown by one, the least of its parts, and the run in turn.
+use Prim.Native.Nat.{ℕ, zero, suc, ◌+◌, ◌*◌, ◌%◌, ◌^◌, ◌≤◌, ◌<◌, min}
+use mathlib.Core.Bool.{Bool, ◌||◌}
+use mathlib.Core.Path.{◌≡◌, refl, ap, ◌∙◌}
 use mathlib.Core.List.{List}
 use mathlib.Core.Logic.{⊎_elim}
-use native.Mathlib.Nat.{eq-or-lt_of_le}
+use native.Mathlib.Nat.{eq-or-lt_of_le, add-zero}
+use native.Mathlib.Numerals.{add-one}
 use native.Mathlib.Omega.{arith}
-use lib.Bits.{bit_xor, xor_lt}
-use lib.IntN.{ℤ}
+use lib.Bits.{bit_xor}
 use lib.ListN.{get_or}
 use lib.Pow.{pow_pos, pow_mono}
+use Rattle.std.specs.List.{list_any, range_with_len, fold}
+use Rattle.model.specs.Soft.{up_from}
+use Rattle.model.specs.Walk.{any_of}
 use Rattle.metric.specs.Parts.{axis_width, span}
-use Rattle.axes.specs.Tables.{AxisAsked}
 use Rattle.metric.proofs.Shifts.{one_shifted}
-use Rattle.bounding.specs.Axes.{LabelAsked}
+use Rattle.bounding.specs.Answers.{least_part}
 
 -- No part, with what is added, is below the widest limit of the bits in which its label differs from `own`
 abbrev pub NoneOver : List ℕ → ℕ → ℕ → (ℕ → ℕ) → ℕ → ℕ → Type 0
@@ -40,16 +43,16 @@ least_more {part} {g} was new le last = record {
 pub labels_few : (w : ℕ) → w ≤ axis_width → (1 * 2 ^ w % 2 ^ 64 ≡ 2 ^ w) × (1 ≤ 2 ^ w) × (2 ^ w ≤ span)
 labels_few w h = (one_shifted w (omega arith), pow_pos w, pow_mono h)
 
--- What making a label's part asks is part of what measuring its axis asks
-pub label_asked : {tables : List ℤ} {at : ℕ} {left : ℤ} {w : ℕ} → AxisAsked tables at left w → (g : ℕ) → g < 2 ^ w
-    → LabelAsked tables at left g
-label_asked {w = w} asked g h = record {
-  room = omega (arith, asked.room, labels_few w asked.bits);
-  remains = asked.remains;
-  product = asked.product g h;
-  cost = asked.cost g h;
-}
+-- The labels in turn, as a chain over a range asks them,
+pub any_over : (test : ℕ → Bool) (a n : ℕ) → list_any test (range_with_len a n) ≡ any_of test (up_from a n)
+unfolding up_from
+any_over test a zero = refl
+any_over test a (suc n) = rw add-one (ap (λ (t : Bool). test a || t) (any_over test (suc a) n))
 
--- The bits in which two labels differ are a label, whose entry is within its axis
-pub entry_place_lem : (from g own : ℕ) → from ≤ span → g < span → own < span → from + bit_xor g own < 2 * span
-entry_place_lem from g own h k l = omega (arith, xor_lt axis_width g own k l)
+-- or takes the least of their parts
+pub least_over : (part : ℕ → ℕ) (a n : ℕ) → fold (λ (m g : ℕ). min m (part g)) (least_part part a) (range_with_len (a + 1) n) ≡ least_part part (a + n)
+unfolding least_part
+least_over part a zero = rw add-zero refl
+least_over part a (suc n) =
+    let e : suc a + n ≡ a + suc n = omega arith in
+    rw (add-one a) (least_over part (suc a) n) ∙ ap (least_part part) e

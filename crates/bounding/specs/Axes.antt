@@ -2,7 +2,7 @@
 use Rattle.std.specs.Prelude.{ℕ, suc, ◌+◌, ◌-◌, ◌*◌, ◌^◌, ◌≤◌, ◌<◌, ◌≡◌, Bool, true, not, ◌||◌, List, eqb, ℤ, pos, nat_abs, length, get_or}
 use Rattle.model.specs.Block.{most_entry}
 use Rattle.metric.specs.Parts.{axis_width, span, nearest_of, bit_of, remainder_bound}
-use Rattle.axes.specs.Tables.{table_size, axis_place, axis_bits, table_part, AxisAsked}
+use Rattle.axes.specs.Tables.{axis_place, axis_bits, table_part, AxisAsked}
 use Rattle.axes.specs.Tables.Axis.{real, imaginary}
 
 -- Of the entries of an axis of w bits, which stand from a place on, the last, that of the label whose bits are all 1, is the widest
@@ -15,25 +15,10 @@ ByBits entries from w =
     (g bound : ℕ) → g < 2 ^ w → get_or entries from 0 ≤ bound
     → ((i : ℕ) → i < w → bit_of w g i ≡ true → get_or entries (from + 2 ^ (w - suc i)) 0 ≤ bound) → get_or entries (from + g) 0 ≤ bound
 
--- What making the part of label g of an axis asks: its product and its cost stand within the table, in their ranges
-pub record LabelAsked (tables : List ℤ) (at : ℕ) (left : ℤ) (g : ℕ) : Type 0 where
-  pub room : at + span + g < table_size
-  pub remains : nat_abs left < remainder_bound
-  pub product : nat_abs (get_or tables (at + g) (pos 0)) < remainder_bound
-  pub cost : get_or tables (at + span + g) (pos 0) ≡ pos (nat_abs (get_or tables (at + span + g) (pos 0)))
-
--- What finding the least part of an axis asks: the parts are made by the table
+-- What making the parts of an axis's labels asks: they are made by the table, and small
 pub record LeastAsked (tables : List ℤ) (at : ℕ) (left : ℤ) (w : ℕ) : Type 0 where
   pub axis : AxisAsked tables at left w
   pub small : (g : ℕ) → g < 2 ^ w → table_part tables at left g < 2 ^ 62
-
--- What holding them against the axis's entries asks: `other` is added to each, and `own` is the best label's
-pub record PartAsked (tables : List ℤ) (at : ℕ) (left : ℤ) (w other : ℕ) (entries : List ℕ) (from own : ℕ) : Type 0 where
-  pub parts : LeastAsked tables at left w
-  pub added : other < 2 ^ 63
-  pub place : from ≤ span
-  pub stream : length entries ≡ 2 * span
-  pub label : own < 2 ^ w
 
 -- What holding the limits of an axis's bits against the nearest distances asks: `other` is added to a squared distance, `low` is what the
 -- nearest of all comes to, and `own` is the best label's

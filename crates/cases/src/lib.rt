@@ -1,49 +1,92 @@
-// The input of the programs that run test records: the records one after another, each behind its length in two bytes, the low one first.
+// What the programs read from standard input: as much of it as a buffer has room for, and of the programs that run test records these
+// records, one after another, each behind its length in two bytes, the low one first.
 #![tactic(auto)]
 
-ghost use Rattle.std.specs.Prelude.{◌≡◌, ◌<◌, length, take};
-ghost use Rattle.std.specs.Io.KnownBytes.{Consumes};
+ghost use Rattle.std.specs.Prelude.{◌≡◌, ◌-◌, ◌<◌, length, take, IfOk};
+ghost use Rattle.std.specs.Io.KnownBytes.{Consumes, IsAtEnd};
+ghost use Rattle.std.specs.Iterator.{at_most};
 ghost use Rattle.io.specs.Counts.{IsPrefixLen};
-ghost use Rattle.cases.specs.Cases.{case_at, Within};
+ghost use Rattle.cases.specs.Cases.{case_at, Within, GivesCase};
+ghost use Rattle.cases.specs.Filled.{filled};
 
+use std::io;
 use std::io::Read;
+use std::ops::Range;
 
-// The bytes of a test record, from one place of the input up to another; or the input ends before.
+// The input ends within a test record.
 #[derive(Clone, Copy)]
-pub enum Case {
-    Bytes(usize, usize),
-    CutOff,
+pub struct CutOff;
+
+// The test records of an input, in their order. Where it ends within one, that is said, and nothing comes behind.
+#[derive(Drop)]
+pub struct Records<'a> {
+    input: &'a [u8],
+    at: usize,
 }
 
-// The test record whose length stands at a place of the input.
-pub fn case_at(input: &[u8], at: usize) -> Case
+impl<'a> Records<'a> {
+    pub fn new(input: &'a [u8]) -> Self
+        ensures { (result.input.now ≡ input.now) × (result.at ≡ 0) }
+    {
+        Records { input, at: 0 }
+    }
+}
+
+impl<'a> Iterator for Records<'a> {
+    type Item = Result<&'a [u8], CutOff>;
+
+    ghost next_gives = { λ s r t. GivesCase s.input.now s.at r t.input.now t.at };
+
+    ghost remaining = { λ s. at_most (length s.input.now - s.at) };
+
+    fn next(&mut self) -> Option<Result<&'a [u8], CutOff>> {
+        if self.input.len() <= self.at {
+            return None;
+        }
+        let Some(Range { start, end }) = case_at(self.input, self.at) else {
+            self.at = self.input.len();
+            return Some(Err(CutOff));
+        };
+        self.at = end;
+        Some(Ok(&self.input[start..end]))
+    }
+}
+
+// Where the test record lies whose length stands at a place of the input; none where the input ends before.
+pub fn case_at(input: &[u8], at: usize) -> Option<Range<usize>>
     requires { at < length input.now }
     ensures { (result ≡ case_at input.now at) × Within at (length input.now) result }
 {
-    let high = at + 1;
-    if input.len() <= high {
-        return Case::CutOff;
+    let (length, behind) = input[at..].split_first_chunk()?;
+    let length = usize::from(u16::from_le_bytes(*length));
+    if behind.len() < length {
+        return None;
     }
-    let length = input[at] as usize + 256 * (input[high] as usize);
     let start = at + 2;
-    if input.len() - start < length {
-        return Case::CutOff;
-    }
-    Case::Bytes(start, start + length)
+    Some(start..start + length)
 }
 
-// Reads until the buffer is full, the input ends or a read fails; how many bytes of the input then stand at its start.
-pub fn read_full<R: Read>(input: &mut R, buffer: &mut [u8]) -> usize
-    ensures in_bounds { IsPrefixLen result buffer.new }
-    ensures bytes { Consumes (R.remaining input.old) (R.remaining input.new) (take result buffer.new) }
+// A read failed, and how many bytes were read before it.
+#[derive(Debug, Drop)]
+pub struct Stopped {
+    pub count: usize,
+    pub error: io::Error,
+}
+
+// Reads until the buffer is full or the input ends; how many bytes of the input then stand at its start. Those that were read before a read
+// failed stand there, too.
+pub fn read_full<R: Read>(input: &mut R, buffer: &mut [u8]) -> Result<usize, Stopped>
+    ensures in_bounds { IsPrefixLen (filled result) buffer.new }
+    ensures bytes { Consumes (R.remaining input.old) (R.remaining input.new) (take (filled result) buffer.new) }
+    ensures end { IfOk result (λ n. n < length buffer.new → IsAtEnd (R.remaining input.new)) }
 {
     let mut n = 0;
     while n < buffer.len() {
         match input.read(&mut buffer[n..]) {
-            Ok(0) => return n,
+            Ok(0) => return Ok(n),
             Ok(more) => n += more,
-            Err(_) => return n,
+            Err(error) => return Err(Stopped { count: n, error }),
         }
     }
-    n
+    Ok(n)
 }

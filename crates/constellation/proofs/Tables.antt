@@ -7,15 +7,16 @@ use mathlib.Core.List.{List, [], map}
 use native.Mathlib.Nat.{eq-or-lt_of_le, not-suc-le-zero, mul_assoc, mul_comm, mul-div_cancel, mod-eq_of_lt, mul-lt-mul_of_pos_right}
 use native.Mathlib.Omega.{arith}
 use lib.IntN.{ℤ, pos, ◌+ℤ◌}
-use lib.ListN.{length, get_or, set, length-set, take, drop}
+use lib.ListN.{length, get_or, get_or-eq_default, set, length-set, take, drop}
 use lib.Pow.{pow-add, pow_mono, pow_pos}
 use lib.Seq.{get_or-take, get_or-drop, get_or-set_same, get_or-set_other}
 use Rattle.model.specs.Constellation.{Complex, amplitude, bits_of, point, differences}
 use Rattle.model.specs.Soft.{up_from}
+use Rattle.model.specs.Block.{most_width}
 use Rattle.model.proofs.Gray.{gray_neighbours}
 use Rattle.model.proofs.Lists.{get_or-places}
 use Rattle.model.proofs.Numbers.{length-bits_of, take_bits, drop_bits, low_bits}
-use Rattle.constellation.specs.Points.{complex_of, Axes, point_in, Points, FilledTo, Filled}
+use Rattle.constellation.specs.Points.{complex_of, places, Axes, point_in, Points, FilledTo, Filled}
 
 -- The amplitudes of an axis of w bits, by rising label
 unfoldable pub axis : ℕ → List ℤ
@@ -65,6 +66,14 @@ table_points {q} {table} right = record {
   where
     origin : Complex
     origin = complex_of (pos 0) (pos 0)
+
+-- The whole of an array is such a table of the widest symbols
+pub table_filled : (old table : List ℤ) → Right most_width table → length old ≡ places → length table ≡ places → Filled most_width old table
+table_filled old table right whole all = record {
+  size = all ∙ sym whole;
+  each = (table_points right).each;
+  kept = λ i h. get_or-eq_default table (pos 0) (omega arith) ∙ sym (get_or-eq_default old (pos 0) (omega arith));
+}
 
 -- Nothing is filled in yet
 pub none_filled : (q : ℕ) (old : List ℤ) → FilledTo q 0 old old

@@ -9,6 +9,7 @@ ghost use Rattle.model.specs.Block.{most_width, widths, ◌∈◌};
 ghost use Rattle.constellation.specs.Points.{places, Axes, Filled};
 
 // How many numbers the points of the widest symbols are: 256 real parts and 256 imaginary ones.
+// Not an array of structs: the definitions `point_in` and `Points` read a symbol's parts at the places 2s and 2s + 1 of one list.
 pub const PLACES: usize = 512;
 
 // The amplitudes of axes of 0, 1, 2 and 3 bits by rising label, those of w bits from place 2^w on: 0; -1, 1; -3, -1, 3, 1; -7, -5, -1, -3, 7,
@@ -16,11 +17,11 @@ pub const PLACES: usize = 512;
 const AXES: [i8; 16] = [0, 0, -1, 1, -3, -1, 3, 1, -7, -5, -1, -3, 7, 5, 1, 3];
 
 // The amplitude of an axis label of up to 3 bits.
-fn amplitude(axes: &[i8; 16], bits: usize, label: usize) -> i8
-    requires { Axes axes.now × (bits ≤ 3) × (label < 2 ^ bits) }
+fn amplitude(bits: usize, label: usize) -> i8
+    requires { (bits ≤ 3) × (label < 2 ^ bits) }
     ensures { result ≡ amplitude (bits_of bits label) }
 {
-    axes[(1 << bits) + label]
+    AXES[(1 << bits) + label]
 }
 
 // The upper bits of a symbol's label, which give the real amplitude.
@@ -36,41 +37,30 @@ fn imaginary_label(q: usize, symbol: usize) -> usize
     requires { q ≤ most_width }
     ensures { result ≡ symbol % 2 ^ (q / 2) }
 {
-    symbol & ((1 << (q / 2)) - 1)
+    symbol % (1 << (q / 2))
 }
 
 // The points of symbols of up to 6 bits, from the amplitudes of their two axes.
 fn fill_by_axes(q: usize, points: &mut [i8; PLACES])
-    requires { (q ≤ 6) × (length points.old ≡ places) }
+    requires { q ≤ 6 }
     ensures { Filled q points.old points.new }
 {
-    let axes = AXES;
-    let n: usize = 1 << q;
-    let mut s = 0;
-    while s < n {
-        points[2 * s] = amplitude(&axes, q - q / 2, real_label(q, s));
-        points[2 * s + 1] = amplitude(&axes, q / 2, imaginary_label(q, s));
-        s += 1;
+    for s in 0..1 << q {
+        points[2 * s] = amplitude(q - q / 2, real_label(q, s));
+        points[2 * s + 1] = amplitude(q / 2, imaginary_label(q, s));
     }
 }
 
-// The 256 points of symbols of 8 bits, from their table.
+// The 256 points of symbols of 8 bits, their table.
 fn copy_points(points: &mut [i8; PLACES])
-    requires { length points.old ≡ places }
     ensures { Filled most_width points.old points.new }
 {
-    let table = table::POINTS;
-    let mut s = 0;
-    while s < 256 {
-        points[2 * s] = table[2 * s];
-        points[2 * s + 1] = table[2 * s + 1];
-        s += 1;
-    }
+    *points = table::POINTS;
 }
 
 // The points of all symbols of q bits by rising label, real and imaginary part; what stands behind them stays.
 pub fn fill(q: usize, points: &mut [i8; PLACES])
-    requires { (q ∈ widths) × (length points.old ≡ places) }
+    requires { q ∈ widths }
     ensures { Filled q points.old points.new }
 {
     if q == 8 {

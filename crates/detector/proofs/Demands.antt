@@ -16,14 +16,13 @@ use Rattle.model.specs.Demand.{Demand2, ResultsFrom}
 use Rattle.owners.specs.Owners.{of_owner, alone, shared_answers, SharedDemand3}
 use Rattle.owners.proofs.Demand.{shared_demand3}
 use Rattle.owners.proofs.Isolation.{rank, own_at, own_inside}
-use Rattle.block.specs.Reading.{layout_of, read_record, read_whole}
+use Rattle.block.specs.Reading.{layout_of, read_record, read_whole, Read}
 use Rattle.block.specs.Contents.{block_of}
 use Rattle.block.specs.Conditions.{Whole}
 use Rattle.block.specs.declared.Layout.{Layout}
 use Rattle.refusals.specs.declared.Refusal.{Refusal}
 use Rattle.refusals.specs.declared.Refusal.TheVariants.{Opening, Ends, Malformed, Streams, Width, Vectors, Clip, Share, Diagonal, Entry, Received, Prior, Trailing, Buffer, Crowded, Weak, Owner}
-use Rattle.block.specs.declared.Read.{Read}
-use Rattle.block.specs.declared.Read.TheVariants.{Ended, Refused}
+use Rattle.std.specs.Prelude.{Ok, Err}
 use Rattle.refusals.proofs.Fillings.{not_both}
 use Rattle.block.proofs.Conditions.{turned_back, whole_read, read_whole_lem, whole_in_range}
 use Rattle.replies.specs.Reply.{reply_of, reply_room}
@@ -58,7 +57,7 @@ module _ (room : ℕ) (b : Block) where
 
 module _ (bytes : List ℕ) (room : ℕ) where
   -- A record that is turned back is refused
-  turned_outcome : (r : Refusal) → (read_whole bytes).read ≡ Refused r → outcome bytes room ≡ refused r
+  turned_outcome : (r : Refusal) → (read_whole bytes).read ≡ Err r → outcome bytes room ≡ refused r
   unfolding outcome
   turned_outcome r e = ap (by_reading room (layout_of bytes) (read_whole bytes).numbers) e
 
@@ -71,23 +70,23 @@ module _ (bytes : List ℕ) (room : ℕ) where
       ∙ ap₂ (λ (layout : Layout) (numbers : List ℤ). by_room room (block_of layout numbers)) is.2 is.1
 
   -- Every record is one or the other
-  one_of_two : ((r : Refusal) × ((read_whole bytes).read ≡ Refused r)) ⊎ Whole bytes (length bytes)
+  one_of_two : ((r : Refusal) × ((read_whole bytes).read ≡ Err r)) ⊎ Whole bytes (length bytes)
   one_of_two = go (read_whole bytes).read refl
     where
-      go : (r : Read) → (read_whole bytes).read ≡ r → ((r : Refusal) × ((read_whole bytes).read ≡ Refused r)) ⊎ Whole bytes (length bytes)
-      go (Ended at) e = inr (whole_read bytes at e).0
-      go (Refused r) e = inl (r, e)
+      go : (r : Read) → (read_whole bytes).read ≡ r → ((r : Refusal) × ((read_whole bytes).read ≡ Err r)) ⊎ Whole bytes (length bytes)
+      go (Ok at) e = inr (whole_read bytes at e).0
+      go (Err r) e = inl (r, e)
 
 -- Demand 1: a call refuses, by a refusal's number, exactly where the table's condition for it holds
 pub demand1 : (bytes : List ℕ) (room : ℕ) (r : Refusal) → (outcome bytes room ≡ refused r) ↔ Condition bytes room r
 demand1 bytes room r = (λ e. holds e (one_of_two bytes room), refuses)
   where
-    holds : outcome bytes room ≡ refused r → ((s : Refusal) × ((read_whole bytes).read ≡ Refused s)) ⊎ Whole bytes (length bytes)
+    holds : outcome bytes room ≡ refused r → ((s : Refusal) × ((read_whole bytes).read ≡ Err s)) ⊎ Whole bytes (length bytes)
         → Condition bytes room r
     holds e (inl t) =
         let f = turned_outcome bytes room t.0 t.1 in
         let same : t.0 ≡ r = cc in
-        inl ((turned_back bytes r).0 (t.1 ∙ ap Refused same))
+        inl ((turned_back bytes r).0 (t.1 ∙ ap Err same))
     holds e (inr w) =
         let t = room_refused room (block_of w.layout w.numbers) r (sym (whole_outcome bytes room w) ∙ e) in
         inr (t.0, record { whole = w; short = t.1 })
@@ -138,7 +137,7 @@ pub demand3 : (bytes : List ℕ) (room : ℕ) (reply : List ℕ) → outcome byt
     → Accepted bytes reply × (length reply ≤ room)
 demand3 bytes room reply e = go (one_of_two bytes room)
   where
-    go : ((r : Refusal) × ((read_whole bytes).read ≡ Refused r)) ⊎ Whole bytes (length bytes) → Accepted bytes reply × (length reply ≤ room)
+    go : ((r : Refusal) × ((read_whole bytes).read ≡ Err r)) ⊎ Whole bytes (length bytes) → Accepted bytes reply × (length reply ≤ room)
     go (inl t) = absurd (not_both (turned_outcome bytes room t.0 t.1) e)
     go (inr w) =
         let b = block_of w.layout w.numbers in

@@ -10,7 +10,7 @@ use Rattle.block.specs.Reading.{layout_of, read_whole, Got, got, into, most_numb
 use Rattle.block.specs.Contents.{block_of}
 use Rattle.refusals.specs.declared.Refusal.{Refusal}
 use Rattle.refusals.specs.declared.Refusal.TheVariants.{Buffer}
-use Rattle.block.specs.declared.Read.TheVariants.{Ended, Refused}
+use Rattle.std.specs.Prelude.{Ok, Err}
 use Rattle.replies.specs.Reply.{reply_of, reply_room}
 use Rattle.refusals.specs.Filling.{refused, filled}
 use Rattle.detector.specs.Outcome.{by_room, outcome}
@@ -28,11 +28,11 @@ module _ (room : ℕ) (b : Block) where
 
 module _ (bytes : List ℕ) (room : ℕ) (list list' : List ℤ) where
   -- A record that was read into the lent list, and one that was refused
-  pub when_ended : (at : ℕ) → length list ≡ most_numbers → got (Ended at) list' ≡ into 0 (read_whole bytes) list
+  pub when_ended : (at : ℕ) → length list ≡ most_numbers → got (Ok at) list' ≡ into 0 (read_whole bytes) list
       → outcome bytes room ≡ by_room room (block_of (layout_of bytes) list')
   unfolding outcome
   when_ended at size e = rw (← ap (λ (g : Got). g.read) e, lent_block bytes at list list' size e)
 
-  pub when_refused : (r : Refusal) → got (Refused r) list' ≡ into 0 (read_whole bytes) list → outcome bytes room ≡ refused r
+  pub when_refused : (r : Refusal) → got (Err r) list' ≡ into 0 (read_whole bytes) list → outcome bytes room ≡ refused r
   unfolding outcome
   when_refused r e = rw (← ap (λ (g : Got). g.read) e)

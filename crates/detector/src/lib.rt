@@ -14,7 +14,7 @@ ghost use Rattle.detector.specs.Outcome.{outcome, by_room};
 ghost use Rattle.search.specs.Holds.{Holds};
 ghost use Rattle.detector.specs.Steps.{Heads, answer_at, OwnerAsked, ListAsked, SearchOneAsked, StepAsked, ReplyAsked};
 
-use block::{Layout, Read};
+use block::Layout;
 use constellation::PLACES;
 use metric::LABEL_BITS;
 use refusals::Refusal;
@@ -55,8 +55,8 @@ pub fn header_of(layout: Layout, numbers: &[i32]) -> Header
         width: block::count_at(numbers, 1) as usize,
         vectors: block::count_at(numbers, 2) as usize,
         clip: block::count_at(numbers, 3),
-        weak: block::count_at(numbers, block::weak_place(layout)),
-        share: block::count_at(numbers, block::share_place(layout)),
+        weak: block::count_at(numbers, layout.weak_place()),
+        share: block::count_at(numbers, layout.share_place()),
     }
 }
 
@@ -66,7 +66,7 @@ pub fn owner_of(numbers: &[i32], h: Header, k: usize) -> usize
     ensures { result ≡ owner_at h.layout numbers.now k }
 {
     let layout = h.layout;
-    if block::own_count(layout) == 0 {
+    if layout.own_count() == 0 {
         return 1;
     }
     let place = block::vector_start(layout, h.streams, h.width, k);
@@ -110,7 +110,7 @@ pub fn search_one(
     let layout = h.layout;
     let size = block::vector_size(h.streams, h.width);
     let start = block::vector_start(layout, h.streams, h.width, k);
-    let from = start + block::own_count(layout);
+    let from = start + layout.own_count();
     let to = from + size;
     let task = Task {
         streams: h.streams,
@@ -195,7 +195,7 @@ pub fn geckoneedle_detect(record: &[u8], reply: &mut [u8]) -> i64
 {
     let mut numbers = [0i32; block::MOST_NUMBERS];
     match reader::read_whole(record, &mut numbers) {
-        Read::Ended(_) => reply_to(reader::layout_of(record), &numbers, reply),
-        Read::Refused(refusal) => refusals::refused(refusal),
+        Ok(_) => reply_to(reader::layout_of(record), &numbers, reply),
+        Err(refusal) => refusals::refused(refusal),
     }
 }

@@ -12,75 +12,37 @@
 // and 1, 1, 2 with D = 3, of 1, 2, 2, 1 with D = 4, and with W = 7 of 1, 3, 1 and 1, 4, 1, where owner 4's vector is another.
 #![tactic(auto)]
 
-ghost use Rattle.std.specs.Prelude.{◌≡◌, ◌++◌, ◌+◌, ◌<◌, ◌≤◌, length, take, drop};
-ghost use Rattle.cases.specs.Cases.{length_at};
-ghost use Rattle.refusals.specs.Filling.{returned, buffer_after};
-ghost use Rattle.detector.specs.Outcome.{outcome};
-ghost use Rattle.detector_cases.specs.Bench.{hex_digit, all_fill, second_at, TwoWithin};
+ghost use Rattle.std.specs.Prelude.{◌≡◌};
+ghost use Rattle.detector_cases.specs.Bench.{all_fill, two_bytes};
 
-use cases::Case;
+use cases::{CutOff, Records};
 
 // What the buffer is filled with.
 const FILL: u8 = 0xAA;
 
-// A digit of base sixteen as text.
-fn digit(d: u8) -> u8
-    requires { d < 16 }
-    ensures { result ≡ hex_digit d }
-{
-    if d < 10 { 48 + d } else { 55 + d }
-}
-
 // What can not be written is passed over, here and below.
-fn print_byte(rt: &impl Print, b: u8) {
-    let text = [digit(b / 16), digit(b % 16)];
-    let _ = rt.write_all(&text);
-}
-
 fn print_bytes(rt: &impl Print, bytes: &[u8]) {
-    let mut i = 0;
-    while i < bytes.len() {
-        print_byte(rt, bytes[i]);
-        i += 1;
+    for b in bytes {
+        let _ = print!(rt; "{b:02X}");
     }
-}
-
-fn print_signed(rt: &impl Print, z: i64) {
-    let _ = print!(rt; "{z}");
 }
 
 // Is every byte the one that the buffer is filled with?
 fn untouched(bytes: &[u8]) -> bool
     ensures { result ≡ all_fill bytes.now }
 {
-    let mut i = 0;
-    while i < bytes.len() {
-        if bytes[i] != FILL {
-            return false;
-        }
-        i += 1;
-    }
-    true
+    bytes.iter().all(|b| *b == FILL)
 }
 
-// Calls the detector with the first n bytes of the array as its buffer. The others stay as they are.
-fn detect(bytes: &[u8], array: &mut [u8], n: usize) -> i64
-    requires { n ≤ length array.old }
-    ensures { (result ≡ returned (outcome bytes.now n))
-        × (array.new ≡ buffer_after (outcome bytes.now n) (take n array.old) ++ drop n array.old) }
-{
-    detector::geckoneedle_detect(bytes, &mut array[..n])
-}
-
-// Runs one test case and writes its line, and one more if a byte behind the buffer was altered.
+// Runs one test case and writes its line, and one more if a byte behind the first n, which are lent as the buffer, was altered.
 fn run(rt: &impl Print, record: &[u8], n: usize) {
-    if 128 < n {
+    let mut array = [FILL; 128];
+    if array.len() < n {
         let _ = println!(rt; "too long");
         return;
     }
-    let mut array = [FILL; 128];
-    print_signed(rt, detect(record, &mut array, n));
-    let _ = print!(rt; " ");
+    let returned = detector::geckoneedle_detect(record, &mut array[..n]);
+    let _ = print!(rt; "{returned} ");
     print_bytes(rt, &array[..n]);
     let _ = println!(rt; "");
     if !untouched(&array[n..]) {
@@ -88,57 +50,32 @@ fn run(rt: &impl Print, record: &[u8], n: usize) {
     }
 }
 
-// The second item of a test case, if the input has it and it is of two bytes.
-fn second_at(input: &[u8], at: usize) -> Case
-    ensures { (result ≡ second_at input.now at) × TwoWithin at (length input.now) result }
+// The number in the second item of a test case, if that has two bytes, the low one first; any other is bad framing.
+fn room(item: &[u8]) -> Result<usize, CutOff>
+    ensures { result ≡ two_bytes item.now }
 {
-    if input.len() <= at {
-        return Case::CutOff;
-    }
-    match cases::case_at(input, at) {
-        Case::Bytes(start, end) => {
-            if end - start != 2 {
-                return Case::CutOff;
-            }
-            Case::Bytes(start, end)
-        }
-        Case::CutOff => Case::CutOff,
+    match item {
+        [low, high] => Ok(usize::from(u16::from_le_bytes([*low, *high]))),
+        _ => Err(CutOff),
     }
 }
 
-// The number in two bytes of the input, the low one first.
-fn number_at(input: &[u8], at: usize) -> usize
-    requires { at + 2 ≤ length input.now }
-    ensures { result ≡ length_at input.now at }
-{
-    input[at] as usize + 256 * (input[at + 1] as usize)
-}
-
-// Runs each test case of the input.
-fn run_all(rt: &impl Print, input: &[u8]) {
-    let mut at = 0;
-    while at < input.len() {
-        match cases::case_at(input, at) {
-            Case::Bytes(start, end) => match second_at(input, end) {
-                Case::Bytes(room, next) => {
-                    run(rt, &input[start..end], number_at(input, room));
-                    at = next;
-                }
-                Case::CutOff => {
-                    let _ = println!(rt; "cut off");
-                    return;
-                }
-            },
-            Case::CutOff => {
-                let _ = println!(rt; "cut off");
-                return;
-            }
-        }
+// Runs each test case of the input, up to where that ends within one.
+fn run_all(rt: &impl Print, input: &[u8]) -> Result<(), CutOff> {
+    let mut items = Records::new(input);
+    while let Some(record) = items.next() {
+        let record = record?;
+        let second = items.next().ok_or(CutOff)??;
+        run(rt, record, room(second)?);
     }
+    Ok(())
 }
 
+// Where a read fails, the test cases that were read before are run.
 fn main(rt: HostRuntime) {
     let mut input = [0u8; 4096];
-    let n = cases::read_full(&mut rt.stdin(), &mut input);
-    run_all(&rt, &input[..n]);
+    let n = cases::read_full(&mut rt.stdin(), &mut input).unwrap_or_else(|stopped| stopped.count);
+    if let Err(CutOff) = run_all(&rt, &input[..n]) {
+        let _ = println!(rt; "cut off");
+    }
 }

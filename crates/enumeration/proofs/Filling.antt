@@ -1,10 +1,12 @@
 -- The keys of the children are filled in: a row's keys differ by their imaginary parts alone, so the column with the smallest imaginary
 -- part has each row's smallest key, and stands behind these for each row.
-use Prim.Native.Nat.{ℕ, ◌+◌, ◌*◌, ◌^◌, ◌≤◌, ◌<◌}
+use Prim.Native.Nat.{ℕ, zero, suc, ◌+◌, ◌-◌, ◌*◌, ◌^◌, ◌≤◌, ◌<◌}
 use mathlib.Core.Path.{◌≡◌, refl, sym, ap, ◌∙◌}
-use mathlib.Core.List.{List}
+use mathlib.Core.List.{List, ◌++◌}
 use native.Mathlib.Omega.{arith}
-use lib.ListN.{length, get_or, drop}
+use borrow.Rule.Slice.PartMut.{put_mid}
+use lib.ListN.{length, get_or, set, take, drop, length-take, length-drop, take-append-drop}
+use Rattle.std.proofs.lemmas.List.{set-append_left, set-append_right}
 use lib.Seq.{get_or-drop}
 use lib.Pow.{pow_pos}
 use Rattle.metric.specs.Parts.{span, imaginary_in, real_in, row_metric, measured_to, filled_from}
@@ -82,10 +84,38 @@ pub placed : {q shared : ℕ} {axes old new : List ℕ} → key_count q ≤ leng
 unfolding keys_in
 placed {q} {shared} {axes} {old} wide e = rw e (whole_placed q shared axes old _ wide refl)
 
--- as the program fills them in
-pub keys_in_lem : (q n c rows shared : ℕ) (axes old before behind new : List ℕ) (column : ℕ) → n ≡ 2 ^ q → c ≡ column_count q → rows ≡ row_count q
-    → column ≡ least_first (drop span axes) c → before ≡ measured_to q shared axes (2 ^ q) old
-    → behind ≡ filled_from n (column_metric (shared + imaginary_in axes column) axes) rows before
-    → new ≡ filled_from (n + rows) (same_column column) rows behind → new ≡ keys_in q shared axes old
+-- A part of a list is filled, and with it the list
+part_filled : (front back : List ℕ) (n at : ℕ) (f : ℕ → ℕ) (k : ℕ) (part : List ℕ) → length front ≡ n → at + k ≤ length part
+    → front ++ (filled_from at f k part ++ back) ≡ filled_from (n + at) f k (front ++ (part ++ back))
+unfolding filled_from
+part_filled front back n at f zero part e room = refl
+part_filled front back n at f (suc k) part e room =
+    let before = filled_from at f k part in
+    let place : n + at + k - n ≡ at + k = omega arith in
+    ap (λ (l : List ℕ). front ++ l) (sym (set-append_left before back (at + k) (f k) (omega (arith, from_length at f k part))))
+    ∙ sym (set-append_right front (before ++ back) n (n + at + k) (f k) e (omega arith)
+    ∙ ap (λ (i : ℕ). front ++ set (before ++ back) i (f k)) place)
+    ∙ ap (λ (l : List ℕ). set l (n + at + k) (f k)) (part_filled front back n at f k part e (omega arith))
+
+-- as the program fills them in: behind the children's keys each row's smallest, and behind these the columns
+pub keys_in_lem : (q n rows shared : ℕ) (axes old before behind : List ℕ) (column : ℕ) → n ≡ 2 ^ q → rows ≡ row_count q → key_count q ≤ length old
+    → column ≡ least_first (drop span axes) (column_count q) → before ≡ measured_to q shared axes (2 ^ q) old
+    → let part = take (length before - n) (drop n before) in
+    behind ≡ filled_from rows (same_column column) rows (filled_from 0 (column_metric (shared + imaginary_in axes column) axes) rows part)
+    → put_mid n (length before - n) before behind ≡ keys_in q shared axes old
 unfolding keys_in
-keys_in_lem q n c rows shared axes old before behind new column en ec er el eb ef e = rw (e, ef, en, er, eb, el, ec) refl
+keys_in_lem q n rows shared axes old before behind column en er room el eb ef =
+    let m = length before - n in
+    let front = take n before in
+    let part = take m (drop n before) in
+    let back = drop m (drop n before) in
+    let least = column_metric (shared + imaginary_in axes column) axes in
+    let same : length before ≡ length old = ap length eb ∙ pass_length q shared axes old (2 ^ q) in
+    let first : length front ≡ n = simp length-take (omega arith) in
+    let behind_it : length part ≡ length before - n = simp (length-take, length-drop) (omega arith) in
+    let whole : front ++ (part ++ back) ≡ before = ap (λ (l : List ℕ). front ++ l) (take-append-drop m (drop n before)) ∙ take-append-drop n before in
+    let start : n + 0 ≡ n = omega arith in
+    ap (λ (l : List ℕ). front ++ (l ++ back)) ef
+    ∙ part_filled front back n rows (same_column column) rows (filled_from 0 least rows part) first (omega (arith, from_length 0 least rows part))
+    ∙ ap (filled_from (n + rows) (same_column column) rows) (part_filled front back n 0 least rows part first (omega arith))
+    ∙ rw (whole, start, eb, en, er, el) refl

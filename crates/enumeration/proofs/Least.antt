@@ -1,17 +1,17 @@
 -- The first of the smallest keys is the one place whose key is at most each one and less than each earlier one.
-use Prim.Native.Nat.{ℕ, ◌+◌, ◌<◌, ◌≤◌}
-use mathlib.Core.Path.{◌≡◌, refl}
+use Prim.Native.Nat.{ℕ, ◌+◌, ◌-◌, ◌<◌, ◌≤◌}
+use mathlib.Core.Path.{◌≡◌, refl, ◌∙◌}
 use mathlib.Core.Bool.{Bool, true, false}
 use mathlib.Core.List.{List}
 use mathlib.Core.Logic.{◌≢◌}
 use native.Mathlib.Decide.{ℕ_discrete}
 use native.Mathlib.Omega.{arith}
 use lib.Dec.{ltb}
-use lib.ListN.{get_or, drop}
-use lib.Seq.{get_or-drop}
+use lib.ListN.{length, get_or, take, drop, length-drop}
+use lib.Seq.{get_or-drop, get_or-take, length-take-le}
 use borrow.Author.Tests.{ltb-true, ltb-false}
 use Rattle.search_spec.specs.Arrays.{least_first}
-use Rattle.search_spec.proofs.Arrays.{least_below, least_le, least_first_lem}
+use Rattle.search_spec.proofs.Arrays.{Same, least_below, least_le, least_first_lem, least_same}
 
 -- Of the keys f 0, .., f (n - 1) the first of the smallest stands at s
 pub record First (f : ℕ → ℕ) (n s : ℕ) : Type 0 where
@@ -61,3 +61,26 @@ from keys at i = get_or keys (at + i) 0
 -- The first of the smallest of n keys from a place on
 pub part_first : (keys : List ℕ) (at n s : ℕ) → 0 < n → s ≡ least_first (drop at keys) n → First (from keys at) n s
 part_first keys at n s h e = first_of (from keys at) (drop at keys) n s (λ i l. get_or-drop at keys i 0) h e
+
+-- The same, as the first of the smallest of these n keys alone
+pub least_part : (keys : List ℕ) (at n : ℕ) → 0 < n → at + n ≤ length keys
+    → let part = take (at + n - at) (drop at keys) in
+    least_first part (length part) ≡ least_first (drop at keys) n
+least_part keys at n h room = rw (count, size) (least_same same h)
+  where
+    count : at + n - at ≡ n
+    count = omega arith
+
+    size : length (take n (drop at keys)) ≡ n
+    size = length-take-le n (drop at keys) (omega (arith, length-drop at keys))
+
+    same : Same n (take n (drop at keys)) (drop at keys)
+    same = record {
+      wide_a = omega (arith, size);
+      wide_b = omega (arith, length-drop at keys);
+      keys = λ i l. get_or-take n (drop at keys) i 0 l;
+    }
+
+-- Each of them is the key at its place
+pub part_at : (keys : List ℕ) (at n s : ℕ) → s < n → get_or (take (at + n - at) (drop at keys)) s 0 ≡ get_or keys (at + s) 0
+part_at keys at n s h = get_or-take (at + n - at) (drop at keys) s 0 (omega arith) ∙ get_or-drop at keys s 0

@@ -1,5 +1,5 @@
 -- The next child is taken: its key is overwritten, and its row's smallest key and column with those of the smallest that is left.
-use Prim.Native.Nat.{ℕ, ◌+◌, ◌*◌, ◌/◌, ◌^◌, ◌≤◌, ◌<◌}
+use Prim.Native.Nat.{ℕ, ◌+◌, ◌-◌, ◌*◌, ◌/◌, ◌^◌, ◌≤◌, ◌<◌}
 use mathlib.Core.Path.{◌≡◌, refl, sym, ap, ap₂, ◌∙◌}
 use mathlib.Core.List.{List}
 use mathlib.Core.Logic.{◌≢◌}
@@ -8,11 +8,12 @@ use native.Mathlib.Nat.{mul-add-div_right, div-eq_of_lt, ne_of_lt, ne_of_gt}
 use native.Mathlib.Omega.{arith}
 use lib.ListN.{length, get_or, set, drop, length-set}
 use lib.Seq.{get_or-set_same, get_or-set_other}
-use lib.Pow.{pow_pos}
+use lib.Pow.{pow_pos, pow_mono}
 use Rattle.metric.proofs.Grid.{row_room}
+use Rattle.model.specs.Block.{most_width}
 use Rattle.search_spec.specs.Arrays.{least_first}
-use Rattle.search_spec.specs.Program.{tried}
-use Rattle.search_spec.proofs.Arrays.{Same}
+use Rattle.search_spec.specs.Program.{tried, most_children}
+use Rattle.search_spec.proofs.Arrays.{Same, least_below}
 use Rattle.enumeration.specs.Rows.{row_count, column_count, row_column, row_least, keys_after, RowLeast, LeastRow, Took}
 use Rattle.enumeration.proofs.Rows.{row, column, rows_first, row_column_lem, row_key}
 
@@ -164,3 +165,22 @@ took_same {q} {old} {new} {symbol} t = record {
   wide_b = omega (arith, t.rows.wide);
   keys = λ i l. sym (t.each i l);
 }
+
+-- The row's places are within the children's, the places of its smallest key and of that key's column are behind them, and the column that
+-- is kept is one of the row
+pub room : {q row n r c : ℕ} {keys : List ℕ} → n ≡ 2 ^ q → r ≡ row_count q → c ≡ column_count q
+    → (q ≤ most_width) × RowLeast q keys × (row ≡ least_first (drop (2 ^ q) keys) (row_count q))
+    → (1 ≤ c) × (row * c + c ≤ n) × (n ≤ most_children) × (n ≤ length keys)
+    × (n + r + row < length keys) × (n + r + row ≤ 3 * most_children) × (get_or keys (n + r + row) 0 < c)
+room {q} {row} {n} {r} {c} {keys} en er ec h =
+    let fewer : q - q / 2 ≤ q = omega arith in
+    let inside : row < row_count q = rw h.2 (least_below _ (row_count q) (pow_pos (q - q / 2))) in
+    rw (en, er, ec) (
+      pow_pos (q / 2),
+      row_room q row inside,
+      pow_mono h.0,
+      omega (arith, h.1.wide),
+      omega (arith, h.1.wide),
+      omega (arith, pow_mono fewer, pow_mono h.0),
+      rw (h.1.column row inside) (least_below _ (column_count q) (pow_pos (q / 2))),
+    )

@@ -8,9 +8,9 @@ ghost use Rattle.metric.specs.Keys.{cost_room};
 ghost use Rattle.metric.specs.Parts.{span, filled_from, AllSmall};
 ghost use Rattle.search_spec.specs.Arrays.{least_first};
 ghost use Rattle.search_spec.specs.Program.{above};
-ghost use Rattle.enumeration.specs.Rows.{row_count, key_count, column_metric, same_column, RowLeast, LeastRow, keys_in, keys_after};
+ghost use Rattle.enumeration.specs.Rows.{row_count, column_count, key_count, column_metric, same_column, RowLeast, LeastRow, keys_in, keys_after};
 
-use metric::AXES;
+use metric::{AXES, sized};
 use tree::{COST_ROOM, TRIED};
 
 // A row of the constellation, by its real label, and its smallest key.
@@ -20,87 +20,72 @@ pub struct Row {
     pub key: u64,
 }
 
-// The place of the smallest of n keys from a place on, the first one of equals, counted from there.
-fn least_from(keys: &[u64], from: usize, n: usize) -> usize
-    requires { (1 ≤ n) × (from + n ≤ length keys.now) }
-    ensures { (result ≡ least_first (drop from keys.now) n) × (result < n) }
+// How many children a node has, and how many rows and columns of the constellation they are: a column has one imaginary label.
+#[derive(Clone, Copy)]
+struct Grid {
+    children: usize,
+    rows: usize,
+    columns: usize,
+}
+
+impl Grid {
+    fn of(q: usize) -> Self
+        requires { q ≤ most_width }
+        ensures { (result.children ≡ 2 ^ q) × (result.rows ≡ row_count q) × (result.columns ≡ column_count q)
+            × (1 ≤ result.rows) × (1 ≤ result.columns) × (result.rows ≤ span) × (result.columns ≤ span) }
+    {
+        Grid {
+            children: 1 << q,
+            rows: 1 << (q - q / 2),
+            columns: 1 << (q / 2),
+        }
+    }
+}
+
+// The place of the smallest key, the first one of equals.
+fn least_of(keys: &[u64]) -> usize
+    requires { 1 ≤ length keys.now }
+    ensures { (result ≡ least_first keys.now (length keys.now)) × (result < length keys.now) }
 {
     let mut least = 0;
-    let mut key = keys[from];
-    let mut k = 1;
-    while k < n {
-        let next = keys[from + k];
+    let mut key = keys[0];
+    for k in 1..keys.len() {
+        let next = keys[k];
         if next < key {
             least = k;
             key = next;
         }
-        k += 1;
     }
     least
 }
 
 // The same; an axis of 64-QAM has eight labels, which the compiler is told here, and no other size: with one more the function is no longer
 // inlined.
-fn least_first(keys: &[u64], from: usize, n: usize) -> usize
-    requires { (1 ≤ n) × (from + n ≤ length keys.now) }
-    ensures { (result ≡ least_first (drop from keys.now) n) × (result < n) }
+fn least_first(keys: &[u64]) -> usize
+    requires { 1 ≤ length keys.now }
+    ensures { (result ≡ least_first keys.now (length keys.now)) × (result < length keys.now) }
 {
-    if n == 8 {
-        return least_from(keys, from, 8);
-    }
-    least_from(keys, from, n)
+    sized::<8, 8, _, _>(keys.len(), &mut |n| least_of(&keys[..n]))
 }
 
-// The smallest key of each row, in the keys from a place on: `base` is what the smallest ones share.
-fn fill_row_least(rows: usize, base: u64, axes: &[u64; AXES], at: usize, keys: &mut [u64])
-    requires { (base < 2 ^ 63) × AllSmall axes.now × (rows ≤ span) × (at + rows ≤ length keys.old) }
-    ensures { keys.new ≡ filled_from at (column_metric base axes.now) rows keys.old }
+// The smallest key of each row, from the real labels' parts: `base` is what the smallest ones share; behind them the column of each.
+fn fill_rows(rows: usize, base: u64, column: u64, axes: &[u64; AXES], least: &mut [u64])
+    requires { (base < 2 ^ 63) × AllSmall axes.now × (rows ≤ span) × (2 * rows ≤ length least.old) }
+    ensures { least.new
+        ≡ filled_from rows (same_column column) rows (filled_from 0 (column_metric base axes.now) rows least.old) }
 {
-    let mut a = 0;
-    while a < rows {
-        keys[at + a] = base + axes[a];
-        a += 1;
-    }
+    metric::fill_sums(base, &axes[..rows], &mut least[..rows]);
+    least[rows..2 * rows].fill(column);
 }
 
 // The same, with the rows of 64-QAM and 16-QAM made known to the compiler.
-fn fill_least(rows: usize, base: u64, axes: &[u64; AXES], at: usize, keys: &mut [u64])
-    requires { (base < 2 ^ 63) × AllSmall axes.now × (rows ≤ span) × (at + rows ≤ length keys.old) }
-    ensures { keys.new ≡ filled_from at (column_metric base axes.now) rows keys.old }
+fn fill_least(rows: usize, base: u64, column: u64, axes: &[u64; AXES], least: &mut [u64])
+    requires { (base < 2 ^ 63) × AllSmall axes.now × (rows ≤ span) × (2 * rows ≤ length least.old) }
+    ensures { least.new
+        ≡ filled_from rows (same_column column) rows (filled_from 0 (column_metric base axes.now) rows least.old) }
 {
-    if rows == 8 {
-        return fill_row_least(8, base, axes, at, keys);
-    }
-    if rows == 4 {
-        return fill_row_least(4, base, axes, at, keys);
-    }
-    fill_row_least(rows, base, axes, at, keys)
-}
-
-// One column for each row, in the keys from a place on.
-fn fill_row_columns(rows: usize, column: u64, at: usize, keys: &mut [u64])
-    requires { (rows ≤ span) × (at + rows ≤ length keys.old) }
-    ensures { keys.new ≡ filled_from at (same_column column) rows keys.old }
-{
-    let mut a = 0;
-    while a < rows {
-        keys[at + a] = column;
-        a += 1;
-    }
-}
-
-// The same, with the rows of 64-QAM and 16-QAM made known to the compiler.
-fn fill_least_columns(rows: usize, column: u64, at: usize, keys: &mut [u64])
-    requires { (rows ≤ span) × (at + rows ≤ length keys.old) }
-    ensures { keys.new ≡ filled_from at (same_column column) rows keys.old }
-{
-    if rows == 8 {
-        return fill_row_columns(8, column, at, keys);
-    }
-    if rows == 4 {
-        return fill_row_columns(4, column, at, keys);
-    }
-    fill_row_columns(rows, column, at, keys)
+    let mut work = |rows| fill_rows(rows, base, column, axes, least);
+    sized::<8, 4, _, _>(rows, &mut work)
 }
 
 // The keys of a node's children, by its partial metric; behind them the smallest of each row, and behind these its column. A row's keys differ
@@ -112,11 +97,16 @@ pub fn fill(q: usize, partial: u64, axes: &[u64; AXES], keys: &mut [u64])
 {
     let shared = partial * COST_ROOM;
     metric::fill_children(q, shared, axes, keys);
-    let column = least_first(axes, AXES / 2, 1 << (q / 2));
+    let grid = Grid::of(q);
+    let column = least_first(&axes[AXES / 2..AXES / 2 + grid.columns]);
     let base = shared + axes[AXES / 2 + column];
-    let rows: usize = 1 << (q - q / 2);
-    fill_least(rows, base, axes, 1 << q, keys);
-    fill_least_columns(rows, column as u64, (1 << q) + rows, keys);
+    fill_least(
+        grid.rows,
+        base,
+        column as u64,
+        axes,
+        &mut keys[grid.children..],
+    );
 }
 
 // The row of the first of the smallest keys, and that key: of the rows' smallest the first one of the smallest.
@@ -124,11 +114,12 @@ pub fn least_row(q: usize, keys: &[u64]) -> Row
     requires { (q ≤ most_width) × RowLeast q keys.now }
     ensures { LeastRow q keys.now result.row result.key }
 {
-    let n: usize = 1 << q;
-    let row = least_first(keys, n, 1 << (q - q / 2));
+    let grid = Grid::of(q);
+    let least = &keys[grid.children..grid.children + grid.rows];
+    let row = least_first(least);
     Row {
         row,
-        key: keys[n + row],
+        key: least[row],
     }
 }
 
@@ -138,15 +129,15 @@ pub fn take(q: usize, row: usize, keys: &mut [u64]) -> usize
     requires { (q ≤ most_width) × RowLeast q keys.old × (row ≡ least_first (drop (2 ^ q) keys.old) (row_count q)) }
     ensures { (result ≡ least_first keys.old (2 ^ q)) × (keys.new ≡ keys_after q keys.old) }
 {
-    let n: usize = 1 << q;
-    let columns: usize = 1 << (q / 2);
-    let rows: usize = 1 << (q - q / 2);
-    let start = row * columns;
-    let symbol = start + keys[n + rows + row] as usize;
+    let grid = Grid::of(q);
+    let least = grid.children + row;
+    let kept = grid.children + grid.rows + row;
+    let start = row * grid.columns;
+    let symbol = start + keys[kept] as usize;
     keys[symbol] = TRIED;
-    let column = least_first(keys, start, columns);
+    let column = least_first(&keys[start..start + grid.columns]);
     let next = keys[start + column];
-    keys[n + row] = next;
-    keys[n + rows + row] = column as u64;
+    keys[least] = next;
+    keys[kept] = column as u64;
     symbol
 }

@@ -25,10 +25,15 @@ append_nil (x ∷ l) = ap (λ (t : List ℕ). x ∷ t) (append_nil l)
 
 -- The part of the array that has the limits
 abbrev pub lent_limits : List ℕ → List ℕ
-lent_limits minima = take (length minima - 2 * most_bits) (drop (2 * most_bits) minima)
+lent_limits minima = take limits_size (drop (2 * most_bits) minima)
+
+pub lent_is : (minima : List ℕ) → length minima ≡ minima_size → lent_limits minima ≡ limits_of minima
+lent_is minima whole =
+    let e : limits_size ≡ length minima - 2 * most_bits = omega arith in
+    ap (λ (n : ℕ). take n (drop (2 * most_bits) minima)) e ∙ limits_part minima
 
 pub lent_whole : (minima : List ℕ) → length minima ≡ minima_size → length (lent_limits minima) ≡ limits_size
-lent_whole minima whole = ap length (limits_part minima) ∙ limits_length minima ∙ omega arith
+lent_whole minima whole = ap length (lent_is minima whole) ∙ limits_length minima ∙ omega arith
 
 -- Where the limits are right, and what they give is put behind them
 module _ (v : Vector) (m : ℕ) (em : m ≡ length v.rows) (label best : ℕ) (mid : List ℕ)
@@ -36,12 +41,12 @@ module _ (v : Vector) (m : ℕ) (em : m ≡ length v.rows) (label best : ℕ) (m
     (right : (i : ℕ) → i < m * v.width → limit_in (limits_of mid) i ≡ limit_at v (taken_in label best mid) i)
     (new : List ℕ) (gives : Reaches v.width (limit_in (lent_limits mid)) new m) where
   abbrev after : List ℕ
-  after = take (2 * most_bits) mid ++ (new ++ drop (length mid - 2 * most_bits) (drop (2 * most_bits) mid))
+  after = take (2 * most_bits) mid ++ (new ++ drop limits_size (drop (2 * most_bits) mid))
 
   after_is : after ≡ take (2 * most_bits) mid ++ new
   after_is =
       ap (λ (l : List ℕ). take (2 * most_bits) mid ++ (new ++ l))
-      (drop_of_length-le (drop (2 * most_bits) mid) {i = length mid - 2 * most_bits} (omega (arith, length-drop (2 * most_bits) mid)))
+      (drop_of_length-le (drop (2 * most_bits) mid) {i = limits_size} (omega (arith, length-drop (2 * most_bits) mid)))
       ∙ ap (λ (l : List ℕ). take (2 * most_bits) mid ++ l) (append_nil new)
 
   new_whole : length new ≡ length mid - 2 * most_bits
@@ -51,7 +56,7 @@ module _ (v : Vector) (m : ℕ) (em : m ≡ length v.rows) (label best : ℕ) (m
   kept_after = ap (taken_in label best) after_is ∙ taken_kept mid (omega arith) new label best
 
   same : (i : ℕ) → i < m * v.width → limit_in (lent_limits mid) i ≡ limit_at v (taken_in label best after) i
-  same i h = ap (λ (l : List ℕ). get_or l i 0) (limits_part mid) ∙ right i h ∙ ap (λ (t : Taken). limit_at v t i) (sym kept_after)
+  same i h = ap (λ (l : List ℕ). get_or l i 0) (lent_is mid whole) ∙ right i h ∙ ap (λ (t : Taken). limit_at v t i) (sym kept_after)
 
   pub limits_after_lem : limits_of after ≡ new
   limits_after_lem = ap limits_of after_is ∙ limits_are mid (omega arith) new
@@ -127,14 +132,14 @@ module _ (v : Vector) (m : ℕ) (em : m ≡ length v.rows) (few : m * v.width �
   unopposed : (i : ℕ) → i < n → bit_of n (bit_xor node label) i ≡ false → limit_in (lent_limits mid) i ≡ limit_at v (taken_in label best old) i
   unfolding lowered_at
   unopposed i h e =
-      ap (λ (l : List ℕ). get_or l i 0) (limits_part mid) ∙ limit_is i h
+      ap (λ (l : List ℕ). get_or l i 0) (lent_is mid narrowed_whole) ∙ limit_is i h
       ∙ ap (λ (y : Bool). cond (beq y true) (min d (limit_in (limits_of old) i)) (limit_in (limits_of old) i)) e ∙ reached.own i h
 
   pub narrowed_stands : StandsFor m v.width (bit_xor node label) (lent_limits mid)
   narrowed_stands =
       still_stands m v.width (bit_xor node label) reached (lent_limits mid)
       (λ i h.
-      ap (λ (l : List ℕ). get_or l i 0) (limits_part mid ∙ narrowed.limits) ∙ filled_rest _ n (limits_of old) i 0 (omega arith))
+      ap (λ (l : List ℕ). get_or l i 0) (lent_is mid narrowed_whole ∙ narrowed.limits) ∙ filled_rest _ n (limits_of old) i 0 (omega arith))
       unopposed
 
 -- The limits after a leaf, which is the best label or not

@@ -1,14 +1,12 @@
 -- The soft values that code writes are those of what is kept.
-use Prim.Native.Nat.{ℕ, ◌+◌, ◌*◌, ◌<◌, ◌^◌}
+use Prim.Native.Nat.{ℕ, ◌+◌, ◌*◌}
 use mathlib.Core.Path.{◌≡◌, sym, ◌∙◌, ap, ap₂}
 use mathlib.Core.List.{List}
-use native.Mathlib.Omega.{arith}
-use lib.IntN.{ℤ, nat_abs}
+use lib.IntN.{ℤ}
 use lib.ListN.{get_or, set}
 use Rattle.model.specs.Metric.{Vector, label_bits, prior_at}
 use Rattle.model.specs.Soft.{soft_value}
-use Rattle.block.proofs.Places.{rows_count, all_priors_at}
-use Rattle.metric.specs.Rows.{VectorAsked}
+use Rattle.block.proofs.Places.{rows_count}
 use Rattle.metric.specs.Parts.{filled}
 use Rattle.metric.proofs.Filled.{filled_more}
 use Rattle.search_spec.specs.Program.{side_of, Taken, taken_of, value_of}
@@ -17,11 +15,6 @@ use Rattle.hypotheses.specs.Limits.{vector_at}
 -- M rows of Q bits make the label's bits
 pub bits_are : (m q clip : ℕ) (numbers : List ℤ) → m * q ≡ label_bits (vector_at m q clip numbers)
 bits_are m q clip numbers = ap (λ (n : ℕ). n * q) (sym (rows_count m q numbers))
-
--- A prior is small
-pub prior_small : (m q clip : ℕ) (numbers : List ℤ) (i : ℕ) → VectorAsked m q numbers → i < m * q
-    → nat_abs (prior_at (vector_at m q clip numbers) i) < 2 ^ 31
-prior_small m q clip numbers i h k = omega (arith, ap nat_abs (all_priors_at m q numbers i k), h.priors i k)
 
 -- By what an empty side gives
 module _ (v : Vector) (empty : ℕ) where

@@ -24,6 +24,7 @@ const ONES: usize = LABEL_BITS;
 // then the limits with what they give.
 pub const LIMITS: usize = 2 * ONES;
 
+// One array of numbers, not a struct of options: `taken_in`, `limits_of` and `side_of` of search_spec are of its places, and ABOVE is none.
 pub const MINIMA: usize = LIMITS + limits::LIMITS;
 
 // B + C with the prior, by the sign that the best label's bit gives it.
@@ -32,34 +33,21 @@ fn clip_limit(far: u64, prior: i64, bit: bool) -> i64
     ensures { result ≡ reach_of bit far prior }
 {
     let center = far as i64;
-    if bit {
-        return center - prior;
-    }
-    center + prior
+    if bit { center - prior } else { center + prior }
 }
 
 // The smaller of a least metric and a reach; nothing is below a negative one.
 fn limit(opposite: u64, reach: i64) -> u64
     ensures { result ≡ min opposite (up_of reach) }
 {
-    if reach < 0 {
-        return 0;
-    }
-    let far = reach as u64;
-    if far < opposite { far } else { opposite }
+    opposite.min(reach.max(0) as u64)
 }
 
 // Does a leaf come before the best label? By metric, equal ones by prior cost, and only then by number.
 fn comes_sooner(leaf: Node, kept: Kept) -> bool
     ensures { result ≡ earlier (leaf.partial ∷ leaf.cost ∷ leaf.bits ∷ []) (kept.best ∷ kept.cost ∷ kept.label ∷ []) }
 {
-    if leaf.partial != kept.best {
-        return leaf.partial < kept.best;
-    }
-    if leaf.cost != kept.cost {
-        return leaf.cost < kept.cost;
-    }
-    leaf.bits < kept.label
+    (leaf.partial, leaf.cost, leaf.bits) < (kept.best, kept.cost, kept.label)
 }
 
 // The least metric at place i, after one of d.
@@ -67,9 +55,7 @@ fn lower(least: &mut [u64], i: usize, d: u64)
     requires { i < length least.old }
     ensures { least.new ≡ set least.old i (min d (get_or least.old i 0)) }
 {
-    if d < least[i] {
-        least[i] = d;
-    }
+    least[i] = least[i].min(d);
 }
 
 // The place of the least metric with bit i as it is.
@@ -81,108 +67,125 @@ fn minimum_place(bit: bool, i: usize) -> usize
 }
 
 // A leaf's metric is taken into the least ones of its bits, in one pass: each bit lowers the one of its side.
-fn note(n: usize, label: u32, d: u64, minima: &mut [u64])
-    requires { (n ≤ most_bits) × (length minima.old ≡ minima_size) }
-    ensures { NotedTo n label d n minima.old minima.new
+fn note(n: usize, leaf: Node, minima: &mut [u64; MINIMA])
+    requires { n ≤ most_bits }
+    ensures { NotedTo n leaf.bits leaf.partial n minima.old minima.new
         × (limits_of minima.new ≡ limits_of minima.old) }
 {
-    let mut i = 0;
-    while i < n {
-        let bit = metric::bit_at(n, label, i);
-        lower(minima, minimum_place(bit, i), d);
-        i += 1;
+    for i in 0..n {
+        let bit = metric::bit_at(n, leaf.bits, i);
+        lower(minima, minimum_place(bit, i), leaf.partial);
     }
 }
 
 // A leaf's metric at a bit in which it is opposite to the best label: it is taken into the least one of the bit's side, and into the limit.
-fn narrow_at(n: usize, label: u32, i: usize, d: u64, minima: &mut [u64])
-    requires { (n ≤ most_bits) × (i < n) × (length minima.old ≡ minima_size) }
-    ensures { minima.new ≡ lowered_both (bit_of n label i) i d minima.old }
+fn narrow_at(n: usize, leaf: Node, i: usize, minima: &mut [u64; MINIMA])
+    requires { (n ≤ most_bits) × (i < n) }
+    ensures { minima.new ≡ lowered_both (bit_of n leaf.bits i) i leaf.partial minima.old }
 {
-    let bit = metric::bit_at(n, label, i);
-    lower(minima, minimum_place(bit, i), d);
-    lower(minima, LIMITS + i, d);
+    let bit = metric::bit_at(n, leaf.bits, i);
+    lower(minima, minimum_place(bit, i), leaf.partial);
+    lower(minima, LIMITS + i, leaf.partial);
 }
 
 // The same as `note` for a leaf that leaves the best label as it is: its metric is taken into the limits, too, of its bits that are opposite to
 // that label's, which are 1 in `opposed`. Nothing else can change: at the other bits the least metric of the leaf's side is the best label's
 // own, or below it. So only the ones are visited, from the last bit on.
-fn narrow(n: usize, label: u32, opposed: u32, d: u64, minima: &mut [u64])
-    requires { (n ≤ most_bits) × (length minima.old ≡ minima_size) × (opposed < 2 ^ n) × LowBeside n label opposed d minima.old }
-    ensures { NarrowedTo n label opposed d n minima.old minima.new }
+fn narrow(n: usize, leaf: Node, opposed: u32, minima: &mut [u64; MINIMA])
+    requires { (n ≤ most_bits) × (opposed < 2 ^ n) × LowBeside n leaf.bits opposed leaf.partial minima.old }
+    ensures { NarrowedTo n leaf.bits opposed leaf.partial n minima.old minima.new }
 {
     let mut rest = opposed;
     let mut i = n;
+    // Not a `for`: a turn goes from one bit that is 1 to the next, past the zeros between.
     while rest != 0 {
-        let zeros = u32::trailing_zeros(rest);
+        let zeros = rest.trailing_zeros();
         i = i - 1 - zeros as usize;
-        narrow_at(n, label, i, d, minima);
+        narrow_at(n, leaf, i, minima);
         rest = (rest >> zeros) >> 1;
     }
 }
 
 // The least metric at place i with the bit opposite to the best label's.
-fn opposite(bit: bool, minima: &[u64], i: usize) -> u64
-    requires { (i < most_bits) × (length minima.now ≡ minima_size) }
+fn opposite(bit: bool, minima: &[u64; MINIMA], i: usize) -> u64
+    requires { i < most_bits }
     ensures { result ≡ get_or (cond bit (zeros_of minima.now) (ones_of minima.now)) i 0 }
 {
-    if bit { minima[i] } else { minima[ONES + i] }
+    minima[minimum_place(!bit, i)]
 }
 
-// The prior of bit i.
-fn prior_at(task: Task, numbers: &[i32], i: usize) -> i64
-    requires { VectorAsked task.streams task.width numbers.now × (i < task.streams * task.width) }
-    ensures { result ≡ prior_at (vector_for task numbers.now) i }
-{
-    let m = task.streams;
-    numbers[m * m + 2 * m + i] as i64
+// What a search is asked, with its vector's numbers.
+#[derive(Clone, Copy)]
+struct Vector<'a> {
+    task: Task,
+    numbers: &'a [i32],
+    ghost asked: { Asked task numbers.now },
 }
 
-// Bit i's limit.
-fn limit_at(task: Task, numbers: &[i32], best: Node, minima: &[u64], i: usize) -> u64
-    requires { Asked task numbers.now × (i < task.streams * task.width) × (best.partial ≤ above) × (length minima.now ≡ minima_size) }
-    ensures { result ≡ limit_at (vector_for task numbers.now) (taken_in best.bits best.partial minima.now) i }
-{
-    let bit = metric::bit_at(task.streams * task.width, best.bits, i);
-    let prior = prior_at(task, numbers, i);
-    let far = clip_limit(best.partial + task.clip as u64, prior, bit);
-    limit(opposite(bit, minima, i), far)
-}
-
-// The limits of all bits, behind their minima.
-fn limit_all(task: Task, numbers: &[i32], best: Node, minima: &mut [u64])
-    requires { Asked task numbers.now × (best.partial ≤ above) × (length minima.old ≡ minima_size) }
-    ensures { minima.new
-        ≡ take (2 * most_bits) minima.old
-        ++ filled (limit_at (vector_for task numbers.now) (taken_in best.bits best.partial minima.old))
-        (task.streams * task.width) (limits_of minima.old) }
-{
-    let n = task.streams * task.width;
-    let mut i = 0;
-    while i < n {
-        let limit = limit_at(task, numbers, best, minima, i);
-        minima[LIMITS + i] = limit;
-        i += 1;
+impl Vector<'_> {
+    // How many bits a label has.
+    fn bits(&self) -> usize
+        ensures { (result ≡ self.now.task.streams * self.now.task.width) × (result ≤ most_bits) }
+    {
+        self.task.streams * self.task.width
     }
-}
 
-// The limits of all bits and what they give, behind the minima.
-fn renew_limits(task: Task, numbers: &[i32], best: Node, minima: &mut [u64])
-    requires { Asked task numbers.now × (best.partial ≤ above) × (length minima.old ≡ minima_size) }
-    ensures { Renewed (vector_for task numbers.now) best.bits best.partial minima.old minima.new
-        × (limits_of minima.new
-        ≡ reaches_in task.width
-        (filled (limit_at (vector_for task numbers.now) (taken_in best.bits best.partial minima.old))
-        (task.streams * task.width) (limits_of minima.old)) task.streams) }
-{
-    limit_all(task, numbers, best, minima);
-    limits::fill(task.streams, task.width, &mut minima[LIMITS..], limits::ALL);
+    // The prior of bit i.
+    fn prior_at(&self, i: usize) -> i64
+        requires { i < self.now.task.streams * self.now.task.width }
+        ensures { (result ≡ prior_at (vector_for self.now.task self.now.numbers.now) i) × (nat_abs result < 2 ^ 31) }
+    {
+        let m = self.task.streams;
+        metric::element(self.numbers, m * m + 2 * m + i)
+    }
+
+    // Bit i's limit.
+    fn limit_at(&self, best: Node, minima: &[u64; MINIMA], i: usize) -> u64
+        requires { (i < self.now.task.streams * self.now.task.width) × (best.partial ≤ above) }
+        ensures { result
+            ≡ limit_at (vector_for self.now.task self.now.numbers.now) (taken_in best.bits best.partial minima.now) i }
+    {
+        let bit = metric::bit_at(self.bits(), best.bits, i);
+        let far = clip_limit(best.partial + self.task.clip as u64, self.prior_at(i), bit);
+        limit(opposite(bit, minima, i), far)
+    }
+
+    // The limits of all bits, behind their minima.
+    fn limit_all(&self, best: Node, minima: &mut [u64; MINIMA])
+        requires { best.partial ≤ above }
+        ensures { minima.new
+            ≡ take (2 * most_bits) minima.old
+            ++ filled (limit_at (vector_for self.now.task self.now.numbers.now) (taken_in best.bits best.partial minima.old))
+            (self.now.task.streams * self.now.task.width) (limits_of minima.old) }
+    {
+        for i in 0..self.bits() {
+            minima[LIMITS + i] = self.limit_at(best, minima, i);
+        }
+    }
+
+    // The limits of all bits and what they give, behind the minima.
+    fn renew_limits(&self, best: Node, minima: &mut [u64; MINIMA])
+        requires { best.partial ≤ above }
+        ensures { Renewed (vector_for self.now.task self.now.numbers.now) best.bits best.partial minima.old minima.new
+            × (limits_of minima.new
+            ≡ reaches_in self.now.task.width
+            (filled (limit_at (vector_for self.now.task self.now.numbers.now) (taken_in best.bits best.partial minima.old))
+            (self.now.task.streams * self.now.task.width) (limits_of minima.old)) self.now.task.streams) }
+    {
+        self.limit_all(best, minima);
+        limits::fill(
+            self.task.streams,
+            self.task.width,
+            &mut minima[LIMITS..],
+            limits::ALL,
+        );
+    }
 }
 
 // A leaf is taken into the best label, the minima and the limits. Most leaves of a long walk do not come before the best label: B and m
 // stay, and few limits change. What is kept goes through whole: put together anew by the caller it would cost more.
-pub fn take(task: Task, leaf: Node, kept: Kept, numbers: &[i32], minima: &mut [u64]) -> Kept
-    requires { Asked task numbers.now × (leaf.partial < above) × (length minima.old ≡ minima_size)
+pub fn take(task: Task, leaf: Node, kept: Kept, numbers: &[i32], minima: &mut [u64; MINIMA]) -> Kept
+    requires { Asked task numbers.now × (leaf.partial < above)
         × (leaf.bits < 2 ^ (task.streams * task.width))
         × Limited (vector_for task numbers.now) (taken_in kept.label kept.best minima.old) (limits_of minima.old)
         × (leaf.cost ≡ cost_at (vector_for task numbers.now) leaf.bits) × BestParts (vector_for task numbers.now) kept }
@@ -196,22 +199,22 @@ pub fn take(task: Task, leaf: Node, kept: Kept, numbers: &[i32], minima: &mut [u
         × Limited (vector_for task numbers.now) (taken_in result.label result.best minima.new)
         (limits_of minima.new) × (length minima.new ≡ minima_size) × PartsAfter (vector_for task numbers.now) leaf kept result }
 {
-    let n = task.streams * task.width;
+    let vector = Vector { task, numbers };
+    let n = vector.bits();
     if !comes_sooner(leaf, kept) {
         let opposed = leaf.bits ^ kept.label;
-        narrow(n, leaf.bits, opposed, leaf.partial, minima);
+        narrow(n, leaf, opposed, minima);
         limits::fill(task.streams, task.width, &mut minima[LIMITS..], opposed);
         return kept;
     }
-    note(n, leaf.bits, leaf.partial, minima);
-    renew_limits(task, numbers, leaf, minima);
+    note(n, leaf, minima);
+    vector.renew_limits(leaf, minima);
     Kept {
-        count: kept.count,
-        stopped: kept.stopped,
         label: leaf.bits,
         best: leaf.partial,
         distance: leaf.distance,
         cost: leaf.cost,
+        ..kept
     }
 }
 
@@ -234,20 +237,17 @@ pub fn write_soft(
     task: Task,
     empty: u32,
     numbers: &[i32],
-    minima: &[u64],
+    minima: &[u64; MINIMA],
     soft: &mut [i32; LABEL_BITS],
 )
-    requires { Asked task numbers.now × (empty ≤ task.clip) × MinimaLow (zeros_of minima.now) (ones_of minima.now)
-        × (length minima.now ≡ minima_size) }
+    requires { Asked task numbers.now × (empty ≤ task.clip) × MinimaLow (zeros_of minima.now) (ones_of minima.now) }
     ensures { soft.new
         ≡ filled (value_of (vector_for task numbers.now) empty (taken_in 0 0 minima.now))
         (task.streams * task.width) soft.old }
 {
-    let n = task.streams * task.width;
-    let mut i = 0;
-    while i < n {
-        let prior = prior_at(task, numbers, i);
+    let vector = Vector { task, numbers };
+    for i in 0..vector.bits() {
+        let prior = vector.prior_at(i);
         soft[i] = soft_value(minima[ONES + i], minima[i], prior, task.clip, empty);
-        i += 1;
     }
 }

@@ -3,41 +3,17 @@ use Prim.Native.Nat.{ℕ, zero, suc, ◌+◌, ◌-◌, ◌*◌, ◌/◌, ◌%◌
 use mathlib.Core.Path.{◌≡◌, refl, sym, ◌∙◌, ap, ap₂}
 use mathlib.Core.Bool.{Bool, true, cond}
 use mathlib.Core.List.{List}
-use mathlib.Core.Logic.{◌⊎◌, ⊎_elim, inl, inr}
-use native.Mathlib.Decide.{dec_lt}
-use native.Mathlib.Nat.{div-eq_of_lt, ne_of_gt, pow-suc}
+use native.Mathlib.Nat.{div-eq_of_lt, pow-suc}
 use native.Mathlib.Numerals.{add-one}
 use native.Mathlib.Omega.{arith}
 use lib.Dec.{eqb}
-use lib.ListN.{length, get_or, set, length-set}
-use lib.Seq.{get_or-set_same, get_or-set_other}
+use lib.ListN.{length, get_or}
 use lib.Pow.{high, ones_split, ones_lt, pow_pos, pow_mono}
-use Rattle.model.specs.Block.{most_bits}
-use Rattle.metric.specs.Parts.{bit_of, filled_from}
-use Rattle.metric.proofs.Filled.{from_more, from_length, from_before, from_at}
+use Rattle.metric.specs.Parts.{bit_of, filled, filled_from}
+use Rattle.metric.proofs.Filled.{filled_length, filled_at, filled_same, from_same, from_join}
 use Rattle.search_spec.specs.Reach.{widest_of}
 use Rattle.search_spec.proofs.Reach.{widest_split, widest_same, real_bit, imaginary_bit, child_bit}
-use Rattle.limits.specs.Reach.{limit_in, axis_reach, AxisFilled}
-
--- What stands behind the entries of an axis that is doubled
-abbrev pub doubled_by : List ℕ → ℕ → ℕ → ℕ → ℕ
-doubled_by limits to limit g = max (get_or limits (to + g) 0) limit
-
--- One place more: the entry that is read is not one of those that are written
-pub double_more : (old new : List ℕ) (to n limit g v : ℕ) → g < n → new ≡ filled_from (to + n) (doubled_by old to limit) g old
-    → v ≡ max (get_or new (to + g) 0) limit → set new (to + n + g) v ≡ filled_from (to + n) (doubled_by old to limit) (g + 1) old
-double_more old new to n limit g v h e ev =
-    let kept : get_or new (to + g) 0 ≡ get_or old (to + g) 0 =
-    ap (λ (x : List ℕ). get_or x (to + g) 0) e ∙ from_before (to + n) (doubled_by old to limit) g old (to + g) 0 (omega arith) in
-    ap₂ (λ (x : List ℕ) (y : ℕ). set x (to + n + g) y) e (ev ∙ ap (λ (y : ℕ). max y limit) kept)
-    ∙ from_more (to + n) (doubled_by old to limit) g old
-
--- Behind the places that are filled nothing is changed
-from_after : (at : ℕ) (f : ℕ → ℕ) (k : ℕ) (l : List ℕ) (i : ℕ) → at + k ≤ i → get_or (filled_from at f k l) i 0 ≡ get_or l i 0
-unfolding filled_from
-from_after at f zero l i h = refl
-from_after at f (suc k) l i h =
-    get_or-set_other (filled_from at f k l) (at + k) i (f k) 0 (ne_of_gt (omega arith)) ∙ from_after at f k l i (omega arith)
+use Rattle.limits.specs.Reach.{limit_in, axis_reach}
 
 -- Only the limits of an axis's bits decide
 pub axis_same : (limit limit' : ℕ → ℕ) (at w g : ℕ) → ((i : ℕ) → at ≤ i → i < at + w → limit i ≡ limit' i)
@@ -113,59 +89,63 @@ halves limit at q s =
     ap (λ (b : Bool). cond b (limit i) 0) (sym (ap (bit_of q s) f ∙ imaginary_bit q s (i - (at + w)) (omega arith)))))
     ∙ sym (widest_split (λ i. bit_of q s (i - at)) limit at w (q / 2)) ∙ ap (widest_of (λ i. bit_of q s (i - at)) limit at) e
 
--- Before the first bit there is one entry
-pub axis_none : (old : List ℕ) (at w to : ℕ) → to < length old → AxisFilled old (set old to 0) at w to 0
-unfolding axis_reach widest_of
-axis_none old at w to room = record {
-  size = length-set old to 0;
-  kept = λ i h. get_or-set_other old to i 0 0 (λ e. ⊎_elim (λ l. omega arith) (λ l. omega (arith, pow_pos w)) h);
-  each = λ g h. let e : to + g ≡ to = omega arith in rw e (get_or-set_same old to 0 0 room);
-}
+-- The limits of an axis's bits by themselves, and where they stand among others
+widest_shift : (pick : ℕ → Bool) (limit : ℕ → ℕ) (at a n : ℕ)
+    → widest_of (λ i. pick (at + i)) (λ i. limit (at + i)) a n ≡ widest_of pick limit (at + a) n
+unfolding widest_of
+widest_shift pick limit at a zero = refl
+widest_shift pick limit at a (suc n) =
+    let e : at + suc a ≡ suc (at + a) = omega arith in
+    ap (max (cond (pick (at + a)) (limit (at + a)) 0))
+    (widest_shift pick limit at (suc a) n ∙ ap (λ (i : ℕ). widest_of pick limit i n) e)
 
--- One bit more
-module _ {old new : List ℕ} {at w to b : ℕ} (inside : at + w ≤ most_bits) (behind : most_bits ≤ to) (room : to + 2 ^ w ≤ length old)
-    (left : b < w) (so_far : AxisFilled old new at w to b) where
+pub axis_shift : (limit limit' : ℕ → ℕ) (at w g : ℕ) → ((i : ℕ) → i < w → limit' i ≡ limit (at + i))
+    → axis_reach limit' 0 w g ≡ axis_reach limit at w g
+unfolding axis_reach
+axis_shift limit limit' at w g h =
+    let e : at + 0 ≡ at = omega arith in
+    widest_same (λ i. bit_of w g (i - 0)) (λ i. bit_of w g (at + i - at)) limit' (λ i. limit (at + i)) 0 w
+    (λ i k l.
+    let f : i - 0 ≡ at + i - at = omega arith in
+    ap₂ (λ (r x : ℕ). cond (bit_of w g r) x 0) f (h i (omega arith)))
+    ∙ widest_shift (λ i. bit_of w g (i - at)) limit at 0 w ∙ ap (λ (i : ℕ). widest_of (λ k. bit_of w g (k - at)) limit i w) e
+
+-- What the last b of an axis's bits give to a label of b bits
+abbrev pub last_reach : List ℕ → ℕ → ℕ → ℕ
+last_reach own b = axis_reach (limit_in own) (length own - b) b
+
+-- One bit more doubles them
+module _ (own old : List ℕ) {now : List ℕ} {b : ℕ} (left : b < length own) (room : 2 ^ length own ≤ length now)
+    (so_far : now ≡ filled (last_reach own b) (2 ^ b) old) where
   abbrev limit_of : ℕ
-  limit_of = get_or new (at + (w - 1 - b)) 0
+  limit_of = get_or own (length own - 1 - b) 0
 
-  abbrev more : List ℕ
-  more = filled_from (to + 2 ^ b) (doubled_by new to limit_of) (2 ^ b) new
+  abbrev next : ℕ → ℕ
+  next = last_reach own (suc b)
 
-  few : 2 ^ b + 2 ^ b ≤ 2 ^ w
-  few = omega (arith, pow-suc 2 b, pow_mono left)
+  behind : (g : ℕ) → g < 2 ^ b → max (get_or now g 0) limit_of ≡ next (2 ^ b + g)
+  behind g h =
+      let at = length own - suc b in
+      let e : length own - b ≡ suc at = omega arith in
+      let f : length own - 1 - b ≡ at = omega arith in
+      let d : 2 ^ b + g ≡ 1 * 2 ^ b + g = omega arith in
+      ap₂ max
+      (ap (λ (l : List ℕ). get_or l g 0) so_far
+      ∙ filled_at (last_reach own b) (2 ^ b) old g 0 h (omega (arith, ap length so_far, filled_length (last_reach own b) (2 ^ b) old, pow_mono left))
+      ∙ ap (λ (i : ℕ). axis_reach (limit_in own) i b g) e)
+      (ap (limit_in own) f)
+      ∙ sym (axis_high (limit_in own) at b g h) ∙ ap next (sym d)
 
-  limit_is : limit_of ≡ limit_in old (at + (w - suc b))
-  limit_is =
-      let e : w - 1 - b ≡ w - suc b = omega arith in
-      ap (λ (i : ℕ). get_or new (at + i) 0) e ∙ so_far.kept (at + (w - suc b)) (inl (omega arith))
+  before : (g : ℕ) → g < 2 ^ b → last_reach own b g ≡ next g
+  before g h =
+      let e : length own - b ≡ suc (length own - suc b) = omega arith in
+      ap (λ (i : ℕ). axis_reach (limit_in own) i b g) e ∙ sym (axis_low (limit_in own) (length own - suc b) b g h)
 
-  -- The places of the entries of the first half are kept, the others made
-  entry : (g : ℕ) → g < 2 ^ suc b → Dec (g < 2 ^ b) → get_or more (to + g) 0 ≡ axis_reach (limit_in old) (at + (w - suc b)) (suc b) g
-  entry g h (yes l) =
-      let e : at + (w - b) ≡ suc (at + (w - suc b)) = omega arith in
-      from_before (to + 2 ^ b) (doubled_by new to limit_of) (2 ^ b) new (to + g) 0 (omega arith) ∙ so_far.each g l
-      ∙ ap (λ (i : ℕ). axis_reach (limit_in old) i b g) e ∙ sym (axis_low (limit_in old) (at + (w - suc b)) b g l)
-  entry g h (no l) =
-      let k = g - 2 ^ b in
-      let d : g ≡ 1 * 2 ^ b + k = omega arith in
-      let p : to + g ≡ to + 2 ^ b + k = omega arith in
-      let less : k < 2 ^ b = omega (arith, pow-suc 2 b) in
-      let e : at + (w - b) ≡ suc (at + (w - suc b)) = omega arith in
-      ap (λ (i : ℕ). get_or more i 0) p
-      ∙ from_at (to + 2 ^ b) (doubled_by new to limit_of) (2 ^ b) new k 0 less (omega (arith, few, so_far.size))
-      ∙ ap₂ max (so_far.each k less ∙ ap (λ (i : ℕ). axis_reach (limit_in old) i b k) e) limit_is
-      ∙ sym (ap (axis_reach (limit_in old) (at + (w - suc b)) (suc b)) d ∙ axis_high (limit_in old) (at + (w - suc b)) b k less)
-
-  kept : (i : ℕ) → (i < to) ⊎ (to + 2 ^ w ≤ i) → get_or more i 0 ≡ get_or new i 0
-  kept i (inl l) = from_before (to + 2 ^ b) (doubled_by new to limit_of) (2 ^ b) new i 0 (omega arith)
-  kept i (inr l) = from_after (to + 2 ^ b) (doubled_by new to limit_of) (2 ^ b) new i (omega (arith, few))
-
-  pub axis_more : (limit n : ℕ) (newer : List ℕ) → limit ≡ limit_of → n ≡ 2 ^ b
-      → newer ≡ filled_from (to + n) (doubled_by new to limit) n new → AxisFilled old newer at w to (b + 1)
-  axis_more limit n newer el en e =
-      rw (e, el, en, add-one)
-      (record {
-        size = from_length (to + 2 ^ b) _ (2 ^ b) new ∙ so_far.size;
-        kept = λ i h. kept i h ∙ so_far.kept i h;
-        each = λ g h. entry g h (dec_lt g (2 ^ b));
-      })
+  pub axis_more : (new : List ℕ) → new ≡ filled_from (2 ^ b) (λ g. max (get_or now g 0) limit_of) (2 ^ b) now
+      → new ≡ filled (last_reach own (b + 1)) (2 ^ (b + 1)) old
+  axis_more new e =
+      let d : 2 ^ b + 2 ^ b ≡ 2 ^ suc b = omega (arith, pow-suc 2 b) in
+      rw add-one
+      (e ∙ from_same (2 ^ b) _ (λ g. next (2 ^ b + g)) (2 ^ b) now behind
+      ∙ ap (filled_from (2 ^ b) (λ g. next (2 ^ b + g)) (2 ^ b)) (so_far ∙ filled_same (last_reach own b) next (2 ^ b) old before)
+      ∙ from_join (2 ^ b) (λ g. next (2 ^ b + g)) next (2 ^ b) old (λ g h. refl) ∙ ap (λ (n : ℕ). filled next n old) d)

@@ -2,27 +2,30 @@
 use Prim.Native.Nat.{ℕ, zero, suc, ◌+◌, ◌-◌, ◌*◌, ◌/◌, ◌%◌, ◌^◌, ◌≤◌, ◌<◌, max}
 use mathlib.Core.Path.{◌≡◌, refl, sym, ◌∙◌, ap, ap₂, subst}
 use mathlib.Core.Bool.{true}
-use mathlib.Core.List.{List}
+use mathlib.Core.List.{List, ◌++◌}
 use mathlib.Core.Logic.{◌⊎◌, inl, inr}
 use native.Mathlib.Decide.{dec_lt}
 use native.Mathlib.Nat.{le_refl, ne_of_lt, ne_of_gt, mul-le-mul, suc-mul, zero-mul, mod-lt, not-suc-le-zero}
 use native.Mathlib.Numerals.{add-one}
 use native.Mathlib.Omega.{arith}
-use lib.ListN.{length, get_or, set, length-set}
-use lib.Seq.{get_or-set_same, get_or-set_other, set-get_or, ext_get_or}
+use lib.ListN.{length, get_or, set, take, drop, length-set}
+use Rattle.std.proofs.lemmas.List.{get_or-take, get_or-drop, length-take, length-drop, take-append-drop}
+use borrow.Rule.Slice.PartMut.{mid_of, put_mid}
+use lib.Seq.{get_or-set_same, get_or-set_other, set-get_or}
 use lib.Pow.{pow_pos, pow_mono, ones_lt}
 use Rattle.model.specs.Block.{most_streams, most_width, most_bits}
-use Rattle.metric.specs.Parts.{filled_from}
+use Rattle.metric.specs.Parts.{span, filled, filled_from}
 use Rattle.axes.specs.Tables.{Axis, axis_bits}
 use Rattle.axes.specs.Tables.Axis.{real, imaginary}
-use Rattle.metric.proofs.Filled.{from_length, from_before, from_at, from_same}
+use Rattle.metric.proofs.Filled.{filled_same, from_length, from_before, from_at, from_same}
 use Rattle.axes.proofs.Tables.{axis_few}
+use Rattle.axes.proofs.Lent.{from_after, behind_filled, put_filled}
 use Rattle.search_spec.specs.Reach.{widest_of}
 use Rattle.search_spec.proofs.Reach.{widest_split, widest_same}
 use Rattle.model.proofs.Numbers.{first_half}
 use Rattle.limits.specs.Reach.{limit_in, limits_size, first_place, axis_entries, entry_place, axis_start, axis_reach, stream_reach}
 use Rattle.limits.specs.Reach.{StreamRight, Reaches, AxisFilled, axis_in, axes_in, stream_in, reaches_in}
-use Rattle.limits.proofs.Axes.{axis_same, all_ones, halves}
+use Rattle.limits.proofs.Axes.{axis_same, axis_shift, all_ones, halves}
 
 -- A place that is not one of stream j's entries
 abbrev Elsewhere : ℕ → ℕ → Type 0
@@ -41,6 +44,11 @@ pub record StreamFilled (q : ℕ) (old new : List ℕ) (j : ℕ) : Type 0 where
   pub others : (i : ℕ) → axis_entries ≤ i → Elsewhere j i → get_or new i 0 ≡ get_or old i 0
   pub first : get_or new (first_place (suc j)) 0 ≡ max (get_or old (first_place j) 0) (widest_of (λ _. true) (limit_in old) (j * q) q)
   pub entry : StreamRight q (limit_in old) new j
+
+-- The limits of an axis's bits, which stand from a place on, by themselves
+pub record LimitsLent (own old : List ℕ) (at w : ℕ) : Type 0 where
+  pub size : length own ≡ w
+  pub each : (i : ℕ) → i < w → limit_in own i ≡ limit_in old (at + i)
 
 -- A symbol's reach is that of all its bits, by the entries of its two axes
 pub stream_is : (q : ℕ) (limit : ℕ → ℕ) (limits : List ℕ) (j s : ℕ)
@@ -84,13 +92,6 @@ module _ (q j : ℕ) {old one two : List ℕ} (few : q ≤ most_width) (label : 
   pub axes_filled : AxesFilled q old two j
   axes_filled = record { size = second.size ∙ first.size; kept = kept; entry = entries }
 
--- Places behind those that are filled are as before
-from_after : (at : ℕ) (f : ℕ → ℕ) (k : ℕ) (l : List ℕ) (i : ℕ) → at + k ≤ i → get_or (filled_from at f k l) i 0 ≡ get_or l i 0
-unfolding filled_from
-from_after at f zero l i h = refl
-from_after at f (suc k) l i h =
-    get_or-set_other (filled_from at f k l) (at + k) i (f k) 0 (ne_of_gt (omega arith)) ∙ from_after at f k l i (omega arith)
-
 -- Where each place has its value already nothing is changed
 from_stand : (at : ℕ) (f : ℕ → ℕ) (k : ℕ) (l : List ℕ) → ((i : ℕ) → i < k → get_or l (at + i) 0 ≡ f i) → filled_from at f k l ≡ l
 unfolding filled_from
@@ -116,18 +117,13 @@ module _ (old : List ℕ) (at w to : ℕ) (room : to + 2 ^ w ≤ length old) whe
     where
       keeps : (i : ℕ) → (i < to) ⊎ (to + 2 ^ w ≤ i) → get_or entries_filled i 0 ≡ get_or old i 0
       keeps i (inl h) = from_before to _ (2 ^ w) old i 0 h
-      keeps i (inr h) = from_after to _ (2 ^ w) old i h
+      keeps i (inr h) = from_after to _ (2 ^ w) old i 0 h
 
-  -- and no other array has them
-  pub axis_is : (new : List ℕ) → AxisFilled old new at w to w → new ≡ entries_filled
-  axis_is new a = ext_get_or 0 new entries_filled (a.size ∙ sym axis_by_rule.size) (λ i h. go i (dec_lt i to) (dec_lt i (to + 2 ^ w)))
-    where
-      go : (i : ℕ) → Dec (i < to) → Dec (i < to + 2 ^ w) → get_or new i 0 ≡ get_or entries_filled i 0
-      go i (yes l) k = a.kept i (inl l) ∙ sym (axis_by_rule.kept i (inl l))
-      go i (no l) (no k) = a.kept i (inr (omega arith)) ∙ sym (axis_by_rule.kept i (inr (omega arith)))
-      go i (no l) (yes k) =
-          let e : to + (i - to) ≡ i = omega arith in
-          rw e at (a.each (i - to) (omega arith) ∙ sym (axis_by_rule.each (i - to) (omega arith)))
+-- The entries that an axis's limits give by themselves are those that they give where they stand
+axis_made : {own old : List ℕ} {at w : ℕ} (new l : List ℕ) → LimitsLent own old at w
+    → new ≡ filled (axis_reach (limit_in own) 0 (length own)) (2 ^ length own) l → new ≡ filled (axis_reach (limit_in old) at w) (2 ^ w) l
+axis_made {own} {old} {at} {w} new l lent e =
+    rw lent.size at e ∙ filled_same _ _ (2 ^ w) l (λ g h. axis_shift (limit_in old) (limit_in own) at w g lent.each)
 
 -- The two axes of a stream
 module _ (q j : ℕ) (old : List ℕ) (few : q ≤ most_width) (label : j * q + q ≤ most_bits) (inside : j < most_streams)
@@ -158,15 +154,62 @@ module _ (q j : ℕ) (old : List ℕ) (few : q ≤ most_width) (label : j * q + 
       (axes_filled q j few label (axis_by_rule old (axis_start q j real) (axis_bits q real) (entry_place j real) real_room)
       (axis_by_rule one (axis_start q j imaginary) (axis_bits q imaginary) (entry_place j imaginary) imaginary_room))
 
-  -- They are filled, one after the other,
-  pub axes_are : (mid new : List ℕ) → AxisFilled old mid (axis_start q j real) (axis_bits q real) (entry_place j real) (axis_bits q real)
-      → AxisFilled mid new (axis_start q j imaginary) (axis_bits q imaginary) (entry_place j imaginary) (axis_bits q imaginary)
-      → new ≡ axes_in q old j
-  axes_are mid new first second =
-      let e = axis_is old (axis_start q j real) (axis_bits q real) (entry_place j real) real_room mid first in
-      axis_is one (axis_start q j imaginary) (axis_bits q imaginary) (entry_place j imaginary) imaginary_room new
-      (subst (λ (x : List ℕ). AxisFilled x new (axis_start q j imaginary) (axis_bits q imaginary) (entry_place j imaginary) (axis_bits q imaginary)) e second)
-      ∙ second_same
+  -- The limits of a stream's bits are lent as a part of the array, and those of its two axes as parts of that
+  module _ (front : List ℕ) (n w : ℕ) (e : front ≡ take axis_entries old) (en : n ≡ q) (ew : w ≡ q - q / 2) where
+    abbrev stream : List ℕ
+    stream = take n (drop (j * q) front)
+
+    stream_size : length stream ≡ q
+    stream_size = rw (en, e) (omega (arith, label, length-take q (drop (j * q) (take axis_entries old)), length-drop (j * q) (take axis_entries old), length-take axis_entries old))
+
+    stream_each : (i : ℕ) → i < q → get_or stream i 0 ≡ limit_in old (j * q + i)
+    stream_each i h =
+        rw (en, e)
+        (get_or-take q (drop (j * q) (take axis_entries old)) i 0 h ∙ get_or-drop (j * q) (take axis_entries old) i 0
+        ∙ get_or-take axis_entries old (j * q + i) 0 (omega (arith, label)))
+
+    pub real_lent : LimitsLent (take w stream) old (axis_start q j real) (axis_bits q real)
+    real_lent = record {
+      size = omega (arith, length-take w stream, stream_size);
+      each = λ i h. get_or-take w stream i 0 (omega arith) ∙ stream_each i (omega arith);
+    }
+
+    pub imaginary_lent : LimitsLent (drop w stream) old (axis_start q j imaginary) (axis_bits q imaginary)
+    imaginary_lent = record {
+      size = omega (arith, length-drop w stream, stream_size);
+      each = λ i h.
+          let d : j * q + (w + i) ≡ axis_start q j imaginary + i = omega arith in
+          get_or-drop w stream i 0 ∙ stream_each (w + i) (omega arith) ∙ ap (limit_in old) d;
+    }
+
+  -- The two axes are filled, one after the other,
+  pub axes_are : (front behind : List ℕ) {re im : List ℕ} (one two : List ℕ) (n n' : ℕ) → front ≡ take axis_entries old → behind ≡ drop axis_entries old
+      → n ≡ span → n' ≡ span
+      → LimitsLent re old (axis_start q j real) (axis_bits q real) → LimitsLent im old (axis_start q j imaginary) (axis_bits q imaginary)
+      → one ≡ filled (axis_reach (limit_in re) 0 (length re)) (2 ^ length re) (mid_of (j * (2 * span)) n behind)
+      → two
+      ≡ filled (axis_reach (limit_in im) 0 (length im)) (2 ^ length im)
+      (mid_of (j * (2 * span) + span) n' (put_mid (j * (2 * span)) n behind one))
+      → front ++ put_mid (j * (2 * span) + span) n' (put_mid (j * (2 * span)) n behind one) two ≡ axes_in q old j
+  unfolding axes_in
+  axes_are front behind one two n n' ef eb en en' re im e₁ e₂ =
+      let at = j * (2 * span) in
+      let f = axis_reach (limit_in old) (axis_start q j real) (axis_bits q real) in
+      let f' = axis_reach (limit_in old) (axis_start q j imaginary) (axis_bits q imaginary) in
+      let size : length front ≡ axis_entries = omega (arith, ap length ef, length-take axis_entries old) in
+      let size' : length behind ≡ most_streams * (2 * span) = omega (arith, ap length eb, length-drop axis_entries old) in
+      let first : put_mid at n behind one ≡ filled_from at f (2 ^ axis_bits q real) behind =
+      ap (put_mid at n behind) (axis_made one _ re e₁) ∙ put_filled at n f (2 ^ axis_bits q real) behind (omega (arith, pow_mono (axis_few q real few))) (omega arith) in
+      let kept : length (put_mid at n behind one) ≡ length behind = ap length first ∙ from_length at f (2 ^ axis_bits q real) behind in
+      let second : put_mid (at + span) n' (put_mid at n behind one) two ≡ filled_from (at + span) f' (2 ^ axis_bits q imaginary) (put_mid at n behind one) =
+      ap (put_mid (at + span) n' (put_mid at n behind one)) (axis_made two _ im e₂)
+      ∙ put_filled (at + span) n' f' (2 ^ axis_bits q imaginary) (put_mid at n behind one) (omega (arith, pow_mono (axis_few q imaginary few))) (omega arith) in
+      let whole : front ++ behind ≡ old = ap₂ ◌++◌ ef eb ∙ take-append-drop axis_entries old in
+      let e : axis_entries + (at + span) ≡ entry_place j imaginary = omega arith in
+      ap (λ (l : List ℕ). front ++ l) (second ∙ ap (filled_from (at + span) f' (2 ^ axis_bits q imaginary)) first)
+      ∙ behind_filled axis_entries (at + span) f' (2 ^ axis_bits q imaginary) front _ size
+      ∙ ap₂ (λ (i : ℕ) (l : List ℕ). filled_from i f' (2 ^ axis_bits q imaginary) l) e
+      (behind_filled axis_entries at f (2 ^ axis_bits q real) front behind size ∙ ap (filled_from (entry_place j real) f (2 ^ axis_bits q real)) whole)
 
   -- or they stand already
   pub axes_stand : StreamRight q (limit_in old) old j → old ≡ axes_in q old j

@@ -1,7 +1,7 @@
 -- What a label's limits give, in one array behind them: the widest limit of the first streams, for each number of these; and for each
 -- label of an axis the widest limit of the bits that are 1 in it.
 use Rattle.std.specs.Prelude.{ℕ, zero, suc, ◌+◌, ◌-◌, ◌*◌, ◌/◌, ◌%◌, ◌^◌, ◌≤◌, ◌<◌, max, ◌≡◌, true, List, ◌⊎◌, length, get_or, set, take, drop}
-use Rattle.model.specs.Block.{most_streams, most_bits}
+use Rattle.model.specs.Block.{most_streams, most_width, most_bits}
 use Rattle.metric.specs.Parts.{span, bit_of, filled_from}
 use Rattle.axes.specs.Tables.{Axis, axis_bits}
 use Rattle.axes.specs.Tables.Axis.{real, imaginary}
@@ -64,6 +64,14 @@ symbol_of m q bits j = bits / 2 ^ ((m - suc j) * q) % 2 ^ q
 -- The entries of the streams whose symbols are 0 in a number are right, for the limits as they stand
 abbrev pub StandsFor : ℕ → ℕ → ℕ → List ℕ → Type 0
 StandsFor m q changed limits = (j : ℕ) → j < m → symbol_of m q changed j ≡ 0 → StreamRight q (limit_in limits) limits j
+
+-- What filling stream j's entries in asks: those may stand where `changed` is 0
+pub record StreamAsked (q : ℕ) (limits : List ℕ) (j changed : ℕ) : Type 0 where
+  pub bits : q ≤ most_width
+  pub inside : j < most_streams
+  pub label : j * q + q ≤ most_bits
+  pub size : length limits ≡ limits_size
+  pub stands : changed ≡ 0 → StreamRight q (limit_in limits) limits j
 
 -- The widest limit of those bits of the streams from `level` on that are 1 in `bits`
 unfoldable pub chosen_reach : ℕ → ℕ → List ℕ → ℕ → ℕ → ℕ

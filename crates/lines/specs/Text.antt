@@ -1,14 +1,12 @@
 -- Document 01, "Bench readings": what the listing program prints, byte by byte (ASCII), from the record's bytes alone.
-use Rattle.std.specs.Prelude.{ℕ, zero, suc, ◌+◌, ◌/◌, ◌%◌, Bool, true, false, cond, List, [], ◌∷◌, ◌++◌, ltb, ℤ, pos, negsuc, length}
+use Rattle.std.specs.Prelude.{ℕ, zero, suc, ◌+◌, ◌/◌, ◌%◌, Bool, true, false, cond, List, [], ◌∷◌, ◌++◌, ltb, ℤ, pos, negsuc, length, Ok, Err}
 use Rattle.model.specs.Metric.{Row, all_priors}
 use Rattle.model.specs.Block.{Block, vector_of, Answer, winning_distance, total_count}
 use Rattle.owners.specs.Owners.{shared_answers}
 use Rattle.refusals.specs.Table.{refusal_number}
-use Rattle.block.specs.Reading.{layout_of, read_whole}
+use Rattle.block.specs.Reading.{layout_of, read_whole, Read}
 use Rattle.block.specs.declared.Layout.{Layout}
 use Rattle.block.specs.Contents.{block_of}
-use Rattle.block.specs.declared.Read.{Read}
-use Rattle.block.specs.declared.Read.TheVariants.{Ended, Refused}
 use Rattle.lines.specs.Against.{against}
 
 -- A number in decimal digits, the fewest that hold it; the first argument is how many may still stand before the last
@@ -108,8 +106,8 @@ unfoldable pub refused_line : ℕ → List ℕ
 refused_line n = field refused_word n ++ line_end
 
 abbrev pub text_read : Layout → List ℤ → Read → List ℕ
-text_read layout numbers (Ended at) = block_text (block_of layout numbers)
-text_read layout numbers (Refused r) = refused_line (refusal_number r)
+text_read layout numbers (Ok at) = block_text (block_of layout numbers)
+text_read layout numbers (Err r) = refused_line (refusal_number r)
 
 -- What is printed of any bytes
 unfoldable pub listing_of : List ℕ → List ℕ

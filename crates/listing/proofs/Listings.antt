@@ -13,7 +13,7 @@ use Rattle.refusals.specs.Table.{refusal_number}
 use Rattle.refusals.specs.declared.Refusal.{Refusal}
 use Rattle.block.specs.Reading.{layout_of, read_whole, Got, got, into, most_numbers}
 use Rattle.block.specs.Contents.{block_of}
-use Rattle.block.specs.declared.Read.TheVariants.{Ended, Refused}
+use Rattle.std.specs.Prelude.{Ok, Err}
 use Rattle.block.proofs.Lent.{lent_block}
 use Rattle.lines.specs.Text.{line_end, refused_word, field, block_text, refused_line, listing_of}
 
@@ -28,13 +28,13 @@ whole {text} {bs} {all} {after} {r} e fits w =
 
 module _ (bytes : List ℕ) (list list' : List ℤ) where
   -- Of a record that was read into the lent list
-  module _ (at : ℕ) (size : length list ≡ most_numbers) (e : got (Ended at) list' ≡ into 0 (read_whole bytes) list) where
+  module _ (at : ℕ) (size : length list ≡ most_numbers) (e : got (Ok at) list' ≡ into 0 (read_whole bytes) list) where
     pub listed_block : listing_of bytes ≡ block_text (block_of (layout_of bytes) list')
     unfolding listing_of
     listed_block = rw (← ap (λ (g : Got). g.read) e, lent_block bytes at list list' size e)
 
   -- Of one that was refused by a number
-  pub listed_refused : (r : Refusal) → got (Refused r) list' ≡ into 0 (read_whole bytes) list → {n : ℕ} → n ≡ refusal_number r
+  pub listed_refused : (r : Refusal) → got (Err r) list' ≡ into 0 (read_whole bytes) list → {n : ℕ} → n ≡ refusal_number r
       → listing_of bytes ≡ field refused_word n ++ line_end
   unfolding listing_of refused_line
   listed_refused r e same = rw (← ap (λ (g : Got). g.read) e, same)

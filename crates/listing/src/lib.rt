@@ -9,7 +9,7 @@ ghost use Rattle.block.specs.Contents.{block_of};
 ghost use Rattle.lines.specs.Text.{most_text, block_text, listing_of};
 ghost use Rattle.listing.specs.Steps.{NumberedAsked, Numbered, VectorsAsked, VectorsListed, BlockAsked};
 
-use block::{Layout, Read};
+use block::Layout;
 use constellation::PLACES;
 use detector::Header;
 use metric::LABEL_BITS;
@@ -110,7 +110,7 @@ fn write_block(text: &mut [u8], layout: Layout, numbers: &[i32]) -> usize
     let q = block::count_at(numbers, 1);
     let n = block::count_at(numbers, 2);
     let clip = block::count_at(numbers, 3);
-    let share = block::count_at(numbers, block::share_place(layout));
+    let share = block::count_at(numbers, layout.share_place());
     let at = lines::write_head(text, m, q, n, clip, share);
     let listed = write_vectors(text, layout, numbers, at);
     lines::write_last(text, listed.at, b"total ", listed.total)
@@ -124,8 +124,8 @@ pub fn list(record: &[u8], text: &mut [u8; MOST_TEXT]) -> usize
 {
     let mut numbers = [0i32; block::MOST_NUMBERS];
     match reader::read_whole(record, &mut numbers) {
-        Read::Ended(_) => write_block(text, reader::layout_of(record), &numbers),
-        Read::Refused(refusal) => {
+        Ok(_) => write_block(text, reader::layout_of(record), &numbers),
+        Err(refusal) => {
             lines::write_last(text, 0, b"refused ", refusals::refusal_number(refusal))
         }
     }

@@ -1,14 +1,17 @@
 -- A list filled place by place: after its first k places, for every k, those hold their values and the others are as before.
-use Prim.Native.Nat.{ℕ, zero, suc, ◌+◌, ◌^◌, ◌<◌, ◌≤◌}
+use Prim.Native.Nat.{ℕ, zero, suc, ◌+◌, ◌-◌, ◌^◌, ◌<◌, ◌≤◌}
 use mathlib.Core.Path.{◌≡◌, refl, sym, ◌∙◌, ap, ap₂, subst}
-use mathlib.Core.Logic.{⊎_elim}
+use mathlib.Core.Logic.{◌⊎◌, inl, inr, ⊎_elim}
 use mathlib.Core.List.{List}
 use native.Mathlib.Nat.{add-suc, eq-or-lt_of_le, le_of_suc-le-suc, not-suc-le-zero, ne_of_lt, ne_of_gt}
 use native.Mathlib.Decide.{ℕ_discrete}
 use native.Mathlib.Numerals.{add-one}
 use native.Mathlib.Omega.{arith}
-use lib.ListN.{length, get_or, set, replicate, length-set}
-use lib.Seq.{get_or-set_same, get_or-set_other}
+use borrow.Rule.Slice.PartMut.{put_mid}
+use lib.ListN.{length, get_or, set, replicate, take, drop, length-set, length-append, length-take, length-drop}
+use lib.Seq.{get_or-set_same, get_or-set_other, get_or-take, get_or-drop, ext_get_or}
+use Rattle.std.proofs.lemmas.Bool.{cases_lt}
+use Rattle.std.proofs.lemmas.List.{get_or_append_left, get_or-append_right}
 use Rattle.metric.specs.Parts.{filled, filled_from}
 
 module _ {A : Type 0} where
@@ -112,6 +115,39 @@ module _ {A : Type 0} where
       let e : at + n + k ≡ at + (n + k) = omega arith in
       rw (add-suc, e)
       (ap₂ (λ (x : List A) (v : A). set x (at + (n + k)) v) (from_behind at n f h k l (λ i j. same i (omega arith))) (same k (omega arith)))
+
+  -- From the last of them on nothing is changed
+  pub from_after : (at : ℕ) (f : ℕ → A) (k : ℕ) (l : List A) (i : ℕ) (d : A) → at + k ≤ i → get_or (filled_from at f k l) i d ≡ get_or l i d
+  unfolding filled_from
+  from_after at f zero l i d h = refl
+  from_after at f (suc k) l i d h =
+      get_or-set_other (filled_from at f k l) (at + k) i (f k) d (ne_of_gt (omega arith)) ∙ from_after at f k l i d (omega arith)
+
+  -- A part of a list is written over, its n entries by a rule: the list is filled from the part's place on
+  pub from_part : (at : ℕ) (f : ℕ → A) (n : ℕ) (l part : List A) (d : A) → at + n ≤ length l → length part ≡ n
+      → ((i : ℕ) → i < n → get_or part i d ≡ f i) → put_mid at n l part ≡ filled_from at f n l
+  from_part at f n l part d room size each =
+      ext_get_or d _ _ (all ∙ sym (from_length at f n l)) (λ i h. go i (cases_lt i at) (cases_lt i (at + n)))
+    where
+      front : length (take at l) ≡ at
+      front = simp length-take (omega arith)
+
+      all : length (put_mid at n l part) ≡ length l
+      all = simp (length-append, length-take, length-drop) (omega arith)
+
+      go : (i : ℕ) → (i < at) ⊎ (at ≤ i) → (i < at + n) ⊎ (at + n ≤ i)
+          → get_or (put_mid at n l part) i d ≡ get_or (filled_from at f n l) i d
+      go i (inl h) b =
+          get_or_append_left (take at l) _ d i (omega (arith, front)) ∙ get_or-take at l i d h ∙ sym (from_before at f n l i d h)
+      go i (inr h) (inl k) =
+          let e : at + (i - at) ≡ i = omega arith in
+          get_or-append_right (take at l) _ at i d front h ∙ get_or_append_left part _ d (i - at) (omega arith) ∙ each (i - at) (omega arith)
+          ∙ sym (from_at at f n l (i - at) d (omega arith) room) ∙ ap (λ (j : ℕ). get_or (filled_from at f n l) j d) e
+      go i (inr h) (inr k) =
+          let e : at + (n + (i - at - n)) ≡ i = omega arith in
+          get_or-append_right (take at l) _ at i d front h ∙ get_or-append_right part _ n (i - at) d size (omega arith)
+          ∙ get_or-drop n (drop at l) (i - at - n) d ∙ get_or-drop at l (n + (i - at - n)) d ∙ ap (λ (j : ℕ). get_or l j d) e
+          ∙ sym (from_after at f n l i d k)
 
 -- An array that is cleared has small entries
 pub zeros_small : (n i : ℕ) → get_or (replicate n 0) i 0 < 2 ^ 62

@@ -1,38 +1,30 @@
 -- No amplitude of an axis, times the diagonal, is nearer than the folded distance. Two magnitudes are never further apart than the numbers
 -- themselves, so signs may be forgotten; and with one bit more an amplitude's magnitude is the middle, 2 ^ w, more or less the one before.
 use Prim.Native.Nat.{ℕ, zero, suc, ◌+◌, ◌-◌, ◌*◌, ◌^◌, ◌≤◌, ◌<◌}
-use mathlib.Core.Path.{◌≡◌, refl, sym, ◌∙◌, ap, subst}
+use mathlib.Core.Path.{◌≡◌, refl, ◌∙◌, ap, subst}
 use mathlib.Core.Bool.{Bool, true, false, cond}
 use mathlib.Core.List.{[], ◌∷◌}
 use mathlib.Core.Logic.{◌⊎◌, inl, inr}
 use native.Mathlib.Nat.{mul-add, mul-zero, mul-le-mul, le_refl}
 use native.Mathlib.Omega.{arith}
-use borrow.Author.Tests.{le-ltb, ltb-true, ltb-false}
-use lib.Dec.{T, ltb}
+use borrow.Author.Tests.{ltb-true}
+use lib.Dec.{T}
 use lib.ListN.{length}
-use lib.IntN.{ℤ, pos, negsuc, neg_ℤ, nat_abs, ◌+ℤ◌, ◌-ℤ◌, ◌*ℤ◌, +ℤ_comm, +ℤ_assoc, neg_ℤ-+ℤ, neg_ℤ-neg_ℤ, -ℤ-+ℤ_cancel}
+use lib.IntN.{ℤ, pos, negsuc, neg_ℤ, nat_abs, ◌+ℤ◌, ◌-ℤ◌, ◌*ℤ◌, neg_ℤ-neg_ℤ}
 use lib.Signed.{lt_z}
-use Rattle.integers.proofs.Magnitudes.{nat_abs-neg, nat_abs-add, nat_abs_mul}
+use Rattle.std.proofs.lemmas.Int.{ints}
+use Rattle.integers.proofs.Magnitudes.{nat_abs_mul}
 use Rattle.model.specs.Constellation.{Bits, amplitude}
 use Rattle.model.proofs.Gray.{amplitude_below}
 use Rattle.metric.specs.Parts.{apart, nearest_of}
 
 -- |a - b| = |b - a|
 swapped : (a b : ℤ) → nat_abs (a -ℤ b) ≡ nat_abs (b -ℤ a)
-swapped a b =
-    sym (nat_abs-neg (a -ℤ b)) ∙ ap nat_abs (neg_ℤ-+ℤ a (neg_ℤ b) ∙ ap (◌+ℤ◌ (neg_ℤ a)) (neg_ℤ-neg_ℤ b) ∙ +ℤ_comm (neg_ℤ a) b)
+swapped a b = omega (arith, ints)
 
 -- ||a| - |b|| ≤ |a - b|
 magnitudes_apart : (a b : ℤ) → apart (nat_abs a) (nat_abs b) ≤ nat_abs (a -ℤ b)
-magnitudes_apart a b =
-    omega (
-      arith,
-      swapped a b,
-      nat_abs-add (a -ℤ b) b,
-      ap nat_abs (-ℤ-+ℤ_cancel a b),
-      nat_abs-add (b -ℤ a) a,
-      ap nat_abs (-ℤ-+ℤ_cancel b a),
-    )
+magnitudes_apart a b = omega (arith, ints)
 
 -- x is n more y, or n less y
 Around : ℕ → ℕ → ℕ → Type 0
@@ -40,9 +32,8 @@ Around n y x = (x ≡ n + y) ⊎ (x + y ≡ n)
 
 around : (n : ℕ) (a : ℤ) → nat_abs a < n → Around n (nat_abs a) (nat_abs (pos n -ℤ a))
 unfolding Around
-around n (pos zero) h = inl (omega arith)
-around n (pos (suc k)) h = inr (rw (le-ltb n (suc k) (omega arith)) (omega arith))
-around n (negsuc k) h = inl (omega arith)
+around n (pos k) h = inr (omega (arith, ints))
+around n (negsuc k) h = inl (omega (arith, ints))
 
 amplitude_around : (b : Bool) (s : Bits) → Around (2 ^ length s) (nat_abs (amplitude s)) (nat_abs (amplitude (b ∷ s)))
 unfolding amplitude
@@ -87,18 +78,9 @@ pub fold_none : (diagonal k d : ℕ) → k ≡ 0 → nearest_of diagonal k d ≡
 unfolding nearest_of
 fold_none diagonal k d e = rw e
 
--- The difference of two natural numbers: where the first is not the smaller one, and its magnitude
-pos_sub : (a b : ℕ) → b ≤ a → pos a -ℤ pos b ≡ pos (a - b)
-pos_sub a zero h = ap pos (omega arith)
-pos_sub a (suc b) h = rw (le-ltb a (suc b) h) refl
-
+-- How far apart two natural numbers are
 pub pos_apart : (a b : ℕ) → nat_abs (pos a -ℤ pos b) ≡ apart a b
-pos_apart a zero = omega arith
-pos_apart a (suc b) = go (ltb a (suc b)) refl
-  where
-    go : (t : Bool) → ltb a (suc b) ≡ t → nat_abs (cond t (negsuc (suc b - suc a)) (pos (a - suc b))) ≡ apart a (suc b)
-    go true e = let h : a < suc b = ltb-true a (suc b) e in omega arith
-    go false e = let h : suc b ≤ a = ltb-false a (suc b) e in omega arith
+pos_apart a b = omega (arith, ints)
 
 -- What is left of n after a number of smaller magnitude is above 0, and so is its product
 turned : (diagonal n : ℕ) (a : ℤ) → nat_abs a < n → pos (diagonal * n) -ℤ pos diagonal *ℤ a ≡ pos (diagonal * nat_abs (pos n -ℤ a))
@@ -106,7 +88,7 @@ turned diagonal n (pos k) h =
     let e : nat_abs (pos n -ℤ pos k) ≡ n - k = pos_apart n k ∙ omega arith in
     let f : n ≡ n - k + k = omega arith in
     let g = ap (◌*◌ diagonal) f ∙ mul-add diagonal (n - k) k in
-    pos_sub (diagonal * n) (diagonal * k) (omega arith) ∙ ap pos (omega (arith, ap (◌*◌ diagonal) e))
+    omega (arith, ints, ap (◌*◌ diagonal) e)
 turned diagonal n (negsuc k) h =
     ap (◌+ℤ◌ (pos (diagonal * n))) (neg_ℤ-neg_ℤ (pos (diagonal * suc k))) ∙ ap pos (omega (arith, mul-add diagonal n (suc k)))
 
@@ -138,19 +120,11 @@ fold_nearer diagonal x b s =
     product = pos diagonal *ℤ amplitude s
 
     exchanged : middle -ℤ pos (nat_abs x) -ℤ product ≡ middle -ℤ product -ℤ pos (nat_abs x)
-    exchanged =
-        +ℤ_assoc middle (neg_ℤ (pos (nat_abs x))) (neg_ℤ product)
-        ∙ ap (◌+ℤ◌ middle) (+ℤ_comm (neg_ℤ (pos (nat_abs x))) (neg_ℤ product))
-        ∙ sym (+ℤ_assoc middle (neg_ℤ product) (neg_ℤ (pos (nat_abs x))))
+    exchanged = omega (arith, ints)
 
 -- A number below 0 with another taken away, and one that is not with one below 0 taken away
 below_less : (n m : ℕ) → nat_abs (negsuc n -ℤ pos m) ≡ suc n + m
-below_less n zero = go (ltb 0 (suc n)) refl
-  where
-    go : (t : Bool) → ltb 0 (suc n) ≡ t → nat_abs (cond t (negsuc (suc n - 1)) (pos (0 - suc n))) ≡ suc n + 0
-    go true e = omega arith
-    go false e = let h : suc n ≤ 0 = ltb-false 0 (suc n) e in absurd (omega arith)
-below_less n (suc m) = omega arith
+below_less n m = omega (arith, ints)
 
 above_less : (n diagonal : ℕ) (m : ℕ) → nat_abs (pos n -ℤ pos diagonal *ℤ neg_ℤ (pos m)) ≡ n + diagonal * m
 above_less n diagonal zero = pos_apart n (diagonal * 0) ∙ omega (arith, mul-zero diagonal)
@@ -158,8 +132,7 @@ above_less n diagonal (suc m) = ap (λ (z : ℤ). nat_abs (pos n +ℤ z)) (neg_�
 
 -- What is left of n after a number of smaller magnitude is above 0
 left_above : (n : ℕ) (a : ℤ) → nat_abs a < n → pos n -ℤ a ≡ pos (nat_abs (pos n -ℤ a))
-left_above n (pos k) h = let e = pos_sub n k (omega arith) in e ∙ ap (λ (z : ℤ). pos (nat_abs z)) (sym e)
-left_above n (negsuc k) h = refl
+left_above n a h = omega (arith, ints)
 
 left_some : (n m : ℕ) (a : ℤ) → nat_abs a < n → Around n (nat_abs a) m → 1 ≤ m
 unfolding Around
@@ -185,9 +158,7 @@ beyond_fold diagonal x b s side = go x b side
     upper = left_above n (amplitude s) (amplitude_below s)
 
     lower : amplitude s -ℤ pos n ≡ neg_ℤ (pos least)
-    lower =
-        +ℤ_comm (amplitude s) (neg_ℤ (pos n)) ∙ ap (◌+ℤ◌ (neg_ℤ (pos n))) (sym (neg_ℤ-neg_ℤ (amplitude s)))
-        ∙ sym (neg_ℤ-+ℤ (pos n) (neg_ℤ (amplitude s))) ∙ ap neg_ℤ upper
+    lower = omega (arith, ints, upper)
 
     go : (x : ℤ) (b : Bool) → lt_z x (pos 0) ≡ b
         → nat_abs x + diagonal ≤ nat_abs (x -ℤ pos diagonal *ℤ cond b (pos n -ℤ amplitude s) (amplitude s -ℤ pos n))

@@ -1,13 +1,19 @@
 -- The constellation by rows: the children with one real label stand side by side.
 use Prim.Native.Nat.{ℕ, ◌+◌, ◌-◌, ◌*◌, ◌/◌, ◌%◌, ◌^◌, ◌≤◌, ◌<◌}
 use mathlib.Core.Path.{◌≡◌, ◌∙◌, ap}
-use mathlib.Core.List.{List}
+use mathlib.Core.List.{List, map}
+use mathlib.Core.Logic.{⊎_elim}
 use native.Mathlib.Nat.{le_refl, le_of_lt, mul-le-mul, suc-mul, mul-add-div_right, div-eq_of_lt, mul-add-mod_self_right, mod-eq_of_lt}
 use native.Mathlib.Nat.{mod-lt, div-add-mod'}
 use native.Mathlib.Omega.{arith}
+use borrow.Rule.Slice.PartMut.{put_mid}
+use lib.ListN.{length, get_or, take, drop, length-take, length-drop}
 use lib.Pow.{pow-add, pow_pos}
-use Rattle.metric.specs.Parts.{real_in, imaginary_in, child_metric, row_metric, measured_to, filled_from}
-use Rattle.metric.proofs.Filled.{from_join}
+use lib.Seq.{get_or-take, get_or-drop}
+use Rattle.std.proofs.lemmas.Bool.{cases_lt}
+use Rattle.std.proofs.lemmas.List.{get_or-map, get_or_past, length-map}
+use Rattle.metric.specs.Parts.{span, real_in, imaginary_in, child_metric, row_metric, measured_to, filled_from, AllSmall}
+use Rattle.metric.proofs.Filled.{from_join, from_part}
 
 -- As many rows as the real axis has labels are all children
 pub rows_all : (q : ℕ) → 2 ^ (q - q / 2) * 2 ^ (q / 2) ≡ 2 ^ q
@@ -15,6 +21,28 @@ rows_all q = let e : q - q / 2 + q / 2 ≡ q = omega arith in rw (← pow-add 2 
 
 pub row_room : (q a : ℕ) → a < 2 ^ (q - q / 2) → a * 2 ^ (q / 2) + 2 ^ (q / 2) ≤ 2 ^ q
 row_room q a h = omega (arith, rows_all q, mul-le-mul h (le_refl (2 ^ (q / 2))), suc-mul a (2 ^ (q / 2)))
+
+-- A part of a list of parts of keys has small entries too
+pub small_part : (l : List ℕ) → AllSmall l → (n at : ℕ) → AllSmall (take n (drop at l))
+small_part l small n at i =
+    ⊎_elim
+    (λ (h : i < n). rw (get_or-take n (drop at l) i 0 h ∙ get_or-drop at l i 0) (small (at + i)))
+    (λ (h : n ≤ i). rw (get_or_past (take n (drop at l)) i 0 (simp length-take (omega arith))) (omega arith))
+    (cases_lt i n)
+
+-- Sums in their places, of `base` and parts that a rule gives
+pub sums_written : (base at n : ℕ) (f : ℕ → ℕ) (parts keys : List ℕ) → at + n ≤ length keys → length parts ≡ n
+    → ((i : ℕ) → i < n → base + get_or parts i 0 ≡ f i) → put_mid at n keys (map (λ part. base + part) parts) ≡ filled_from at f n keys
+sums_written base at n f parts keys room size each =
+    from_part at f n keys _ 0 room (length-map parts _ ∙ size) (λ i h. get_or-map _ parts i 0 0 (omega arith) ∙ each i h)
+
+-- The keys of a row: its parts are the first ones of the imaginary labels
+pub row_written : (base at n : ℕ) (axes keys : List ℕ) → span + n ≤ length axes → at + n ≤ length keys
+    → put_mid at n keys (map (λ part. base + part) (take n (drop span axes))) ≡ filled_from at (row_metric base axes) n keys
+unfolding row_metric
+row_written base at n axes keys wide room =
+    sums_written base at n _ (take n (drop span axes)) keys room (simp (length-take, length-drop) (omega arith))
+    (λ b h. ap (λ (x : ℕ). base + x) (get_or-take n (drop span axes) b 0 h ∙ get_or-drop span axes b 0))
 
 module _ (q partial : ℕ) (axes : List ℕ) where
   abbrev pub children_of : ℕ → ℕ

@@ -6,7 +6,8 @@ use native.Mathlib.Nat.{add-zero, zero-add, add_assoc, add-suc}
 use native.Mathlib.Omega.{arith}
 use lib.ListN.{length, get_or, take-append-drop}
 use lib.Seq.{take_at, drop_at}
-use lib.IntN.{ℤ, pos, neg_ℤ, ◌+ℤ◌, ◌-ℤ◌, ◌*ℤ◌, +ℤ_assoc, +ℤ_comm, +ℤ_idr, neg_ℤ-+ℤ, zero-*ℤ}
+use lib.IntN.{ℤ, pos, ◌+ℤ◌, ◌-ℤ◌, ◌*ℤ◌, +ℤ_idr, zero-*ℤ}
+use Rattle.std.proofs.lemmas.Int.{ints}
 use Rattle.model.specs.Constellation.{Complex, Bits, bits_of, real, ◌⊕◌, ◌⊖◌, ◌⊗◌, square, point}
 use Rattle.model.specs.Metric.{Row, dot, residual, prior_cost, increment}
 use Rattle.model.specs.Soft.{up_from}
@@ -18,17 +19,11 @@ use Rattle.metric.specs.Parts.{part, axis_part}
 use Rattle.metric.specs.Rows.{remainder_of}
 
 -- Taking away a sum, in either order
-sub_add : (a b c : ℤ) → a -ℤ (b +ℤ c) ≡ a -ℤ b -ℤ c
-sub_add a b c = ap (λ (z : ℤ). a +ℤ z) (neg_ℤ-+ℤ b c) ∙ sym (+ℤ_assoc a (neg_ℤ b) (neg_ℤ c))
-
 pub less_sum : (a b c : Complex) → a ⊖ (b ⊕ c) ≡ a ⊖ b ⊖ c
-less_sum a b c = ap₂ complex_of (sub_add a.re b.re c.re) (sub_add a.im b.im c.im)
+less_sum a b c = ap₂ complex_of (omega (arith, ints)) (omega (arith, ints))
 
 pub less_other : (a b c : Complex) → a ⊖ (b ⊕ c) ≡ a ⊖ c ⊖ b
-less_other a b c =
-    ap₂ complex_of
-    (ap (λ (z : ℤ). a.re -ℤ z) (+ℤ_comm b.re c.re) ∙ sub_add a.re c.re b.re)
-    (ap (λ (z : ℤ). a.im -ℤ z) (+ℤ_comm b.im c.im) ∙ sub_add a.im c.im b.im)
+less_other a b c = ap₂ complex_of (omega (arith, ints)) (omega (arith, ints))
 
 -- A diagonal entry is real
 real_times : (n : ℕ) (p : Complex) → real n ⊗ p ≡ complex_of (pos n *ℤ p.re) (pos n *ℤ p.im)

@@ -4,7 +4,6 @@ pub mod Keys
 pub mod Increments
 pub mod Rows
 pub mod Remainders
-pub mod Products
 pub mod Grid
 pub mod Pass
 pub mod Parted

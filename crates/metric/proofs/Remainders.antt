@@ -6,7 +6,7 @@ use native.Mathlib.Nat.{add_comm, suc-mul, mul-le-mul}
 use native.Mathlib.Numerals.{add-one}
 use native.Mathlib.Omega.{arith}
 use lib.ListN.{length, get_or}
-use lib.IntN.{ℤ, pos, nat_abs, ◌+ℤ◌, ◌-ℤ◌, ◌*ℤ◌, +ℤ_idr}
+use lib.IntN.{ℤ, pos, nat_abs, ◌-ℤ◌, +ℤ_idr}
 use lib.Pow.{pow_mono}
 use Rattle.model.specs.Constellation.{Complex, Bits, bits_of, ◌⊕◌, ◌⊖◌, ◌⊗◌, point}
 use Rattle.model.specs.Metric.{dot}
@@ -42,11 +42,6 @@ unfolding largest_amplitude
 point_parts q symbol h x y e =
     let b = point_bound most_width (bits_of q symbol) (omega (arith, length-bits_of q symbol)) in
     (omega (arith, ap (λ (z : Complex). nat_abs z.re) e, b.re), omega (arith, ap (λ (z : Complex). nat_abs z.im) e, b.im))
-
--- A product by its parts
-pub product_by : (a b x y re im : ℤ) (z p : Complex) → a ≡ z.re → b ≡ z.im → complex_of x y ≡ p
-    → re ≡ a *ℤ x -ℤ b *ℤ y → im ≡ a *ℤ y +ℤ b *ℤ x → complex_of re im ≡ z ⊗ p
-product_by a b x y re im z p ea eb ep er ei = ap₂ complex_of er ei ∙ ap₂ (λ (u w : Complex). u ⊗ w) (ap₂ complex_of ea eb) ep
 
 module _ (m q : ℕ) (numbers : List ℤ) (level node : ℕ) where
   abbrev pub remains : Complex

@@ -67,13 +67,6 @@ pub record Measured (m q : ℕ) (numbers : List ℤ) (i node : ℕ) (axes : List
   pub cheap : (s : ℕ) → s < 2 ^ q → symbol_cost_in m q numbers i s < cost_room
   pub child : (d s : ℕ) → s < 2 ^ q → child_key m q numbers i node d s ≡ child_metric q (d * cost_room) (real_in axes) (imaginary_in axes) s
 
--- The parts of two complex numbers, an entry of R and a point, that are multiplied
-pub record Factors (a b x y : ℤ) : Type 0 where
-  pub entry_re : nat_abs a ≤ most_entry
-  pub entry_im : nat_abs b ≤ most_entry
-  pub point_re : nat_abs x < span
-  pub point_im : nat_abs y < span
-
 -- What multiplying the entry of R at a place with a symbol's point asks
 pub record TermAsked (points numbers : List ℤ) (place symbol : ℕ) : Type 0 where
   pub below : symbol < 2 ^ most_width

@@ -2,14 +2,9 @@
 // with no amplitude looked up.
 ghost use Rattle.std.specs.Prelude.{◌≡◌, ◌<◌, ◌≤◌, nat_abs};
 ghost use Rattle.model.specs.Block.{most_entry};
-ghost use Rattle.metric.specs.Parts.{axis_width, apart, nearest_of, remainder_bound};
+ghost use Rattle.metric.specs.Parts.{axis_width, nearest_of, remainder_bound};
 
-// How far apart two numbers are.
-fn gap(a: u64, b: u64) -> u64
-    ensures { result ≡ apart a b }
-{
-    if a < b { b - a } else { a - b }
-}
+use super::sized;
 
 // The distance from e to the nearest of the amplitudes of an axis of w bits, times the diagonal: the axis is folded at 0, and then at the
 // middle of what is left.
@@ -17,11 +12,9 @@ fn folded(e: i64, diagonal: u64, w: usize) -> u64
     requires { (nat_abs e < remainder_bound) × (diagonal ≤ most_entry) × (w ≤ axis_width) }
     ensures { (result ≡ nearest_of diagonal w (nat_abs e)) × (result < remainder_bound) }
 {
-    let mut distance = integers::magnitude(e);
-    let mut k = w;
-    while k > 0 {
-        k -= 1;
-        distance = gap(distance, diagonal << k);
+    let mut distance = e.unsigned_abs();
+    for k in (0..w).rev() {
+        distance = distance.abs_diff(diagonal << k);
     }
     distance
 }
@@ -31,8 +24,5 @@ pub fn nearest(e: i64, diagonal: u64, w: usize) -> u64
     requires { (nat_abs e < remainder_bound) × (diagonal ≤ most_entry) × (w ≤ axis_width) }
     ensures { (result ≡ nearest_of diagonal w (nat_abs e)) × (result < remainder_bound) }
 {
-    if w == 3 {
-        return folded(e, diagonal, 3);
-    }
-    folded(e, diagonal, w)
+    sized::<3, 3, _, _>(w, &mut |w| folded(e, diagonal, w))
 }

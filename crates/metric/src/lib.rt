@@ -11,7 +11,7 @@ ghost use Rattle.model.specs.Block.{most_width, most_bits};
 ghost use Rattle.constellation.specs.Points.{places};
 ghost use Rattle.metric.specs.Parts.{bit_of, remainder_bound};
 
-pub use children::fill_children;
+pub use children::{fill_children, fill_sums};
 use constellation::PLACES;
 pub use distance::nearest;
 pub use remaining::remainder;
@@ -25,20 +25,37 @@ const SPAN: usize = 16;
 // The places of the parts of both axes at a node.
 pub const AXES: usize = 2 * SPAN;
 
+// Work of a size n, where the sizes A and B, which are asked for most often, are made known to the compiler: it then has a copy of the work
+// for each, its loops unrolled. Where one size is enough it is given twice. The work may change what it borrows.
+pub fn sized<const A: usize, const B: usize, T, F: FnMut(usize) -> T>(n: usize, work: &mut F) -> T
+    requires { F.pre work.old n }
+    ensures { F.step work.old n result work.new }
+{
+    if n == A {
+        return work(A);
+    }
+    if n == B {
+        return work(B);
+    }
+    work(n)
+}
+
 // Bit i, counted from the first, of a label of n bits.
+#[tactic(auto, unfolding(crate::specs::Parts::bit_of))]
 pub fn bit_at(n: usize, label: u32, i: usize) -> bool
     requires { (i < n) × (n ≤ most_bits) }
     ensures { result ≡ bit_of n label i }
 {
-    (label >> (n - 1 - i)) & 1 == 1
+    (label >> (n - 1 - i)) % 2 == 1
 }
 
 // One of the points' parts.
+// Not one generic function with `element`: its bound would need a law that the conversion keeps the number, for one index each.
 pub fn amplitude(points: &[i8; PLACES], i: usize) -> i64
     requires { i < places }
     ensures { result ≡ get_or points.now i (pos 0) }
 {
-    points[i] as i64
+    i64::from(points[i])
 }
 
 // One of a vector's numbers.
@@ -46,7 +63,7 @@ pub fn element(numbers: &[i32], i: usize) -> i64
     requires { i < length numbers.now }
     ensures { result ≡ get_or numbers.now i (pos 0) }
 {
-    numbers[i] as i64
+    i64::from(numbers[i])
 }
 
 // The symbol of q bits of a node that has `place` bits after it.
@@ -54,7 +71,7 @@ pub fn symbol_at(node: u32, q: usize, place: usize) -> usize
     requires { (q ≤ most_width) × (place < 64) }
     ensures { result ≡ node / 2 ^ place % 2 ^ q }
 {
-    (node as usize >> place) & ((1 << q) - 1)
+    (node as usize >> place) % (1 << q)
 }
 
 // a less b.

@@ -2,15 +2,11 @@
 // that fails: document 01, "The record" and "Where a record is turned back", with document 02's 15 to 17.
 #![tactic(auto)]
 
-ghost use Rattle.std.specs.Prelude.{◌≡◌, [], ◌∷◌, ◌+◌, ◌*◌, ◌<◌, ◌≤◌, ◌^◌, length, replicate, take};
-ghost use Rattle.block.specs.Reading.{opening, whole_of, by_number, one_at, Sure, kinds_of, Small, most_numbers, owned_size, vector_kinds, numbers_at, runs_of, part_at, starts_with, layout_of, size_stage, limit_stage, vector_stage, stages_at, read_record, read_whole, got, into, StreamsStored, SizesStored};
+ghost use Rattle.std.specs.Prelude.{◌≡◌, [], ◌∷◌, ◌+◌, ◌<◌, ◌≤◌, ◌^◌, length, replicate, take};
+ghost use Rattle.block.specs.Reading.{opening, whole_of, by_number, one_at, Sure, kinds_of, Small, most_numbers, header_size, numbers_at, runs_of, part_at, starts_with, layout_of, size_stage, limit_stage, vector_stage, stages_at, read_record, read_whole, got, into, StreamsStored, SizesStored};
 
-use block::{
-    Layout, MOST_NUMBERS, One, Part, Read, count_of, header_size, opening, own_count, run_at,
-    run_count, vector_size, weak_count,
-};
+use block::{Layout, MOST_NUMBERS, Part, count_at, vector_start};
 use refusals::{Kind, Refusal, allowed, is_folded, refusal_of};
-use wire::Number;
 
 // The number whose groups were read: unfolded where its kind is folded.
 fn whole(kind: Kind, n: u32) -> i32
@@ -25,15 +21,15 @@ fn whole(kind: Kind, n: u32) -> i32
 }
 
 // A number whose groups were read, ranged.
-fn ranged(kind: Kind, n: u32, next: usize) -> One
+fn ranged(kind: Kind, n: u32, next: usize) -> Result<(i32, usize), Refusal>
     requires { n < 2 ^ 28 }
-    ensures { result ≡ by_number kind (Number.Value n next) }
+    ensures { result ≡ by_number kind (Ok (n, next)) }
 {
     let z = whole(kind, n);
     if allowed(kind, z) {
-        return One::Taken(z, next);
+        return Ok((z, next));
     }
-    One::Turned(refusal_of(kind, z))
+    Err(refusal_of(kind, z))
 }
 
 // A bound for the kinds that come in long runs: a number read that is below it is folded and in range, so that no other test is left. It is
@@ -50,20 +46,15 @@ fn sure_below(kind: Kind) -> u32
 }
 
 // One number, read and then ranged. The bound is its kind's, so that the kind is looked at once for a run.
-fn read_one(bytes: &[u8], at: usize, kind: Kind, sure: u32) -> One
+fn read_one(bytes: &[u8], at: usize, kind: Kind, sure: u32) -> Result<(i32, usize), Refusal>
     requires { Sure kind sure }
     ensures { result ≡ one_at kind bytes.now at }
 {
-    match wire::read_number(bytes, at) {
-        Number::Value(n, next) => {
-            if n < sure {
-                return One::Taken(wire::unfold(n), next);
-            }
-            ranged(kind, n, next)
-        }
-        Number::Short => One::Turned(Refusal::Ends),
-        Number::Malformed => One::Turned(Refusal::Malformed),
+    let (n, next) = wire::read_number(bytes, at)?;
+    if n < sure {
+        return Ok((wire::unfold(n), next));
     }
+    ranged(kind, n, next)
 }
 
 // A run of numbers of one kind, stored from a place of the lent list on.
@@ -74,26 +65,18 @@ fn read_run(
     count: usize,
     numbers: &mut [i32; MOST_NUMBERS],
     from: usize,
-) -> Read
+) -> Result<usize, Refusal>
     requires { from + count ≤ most_numbers }
     ensures { got result numbers.new ≡ into from (numbers_at (replicate count kind) bytes.now at) numbers.old }
 {
     let sure = sure_below(kind);
     let mut place = at;
-    let mut k = 0;
-    while k < count {
-        match read_one(bytes, place, kind, sure) {
-            One::Taken(z, next) => {
-                numbers[from + k] = z;
-                place = next;
-            }
-            One::Turned(refusal) => {
-                return Read::Refused(refusal);
-            }
-        }
-        k += 1;
+    for k in 0..count {
+        let (z, next) = read_one(bytes, place, kind, sure)?;
+        numbers[from + k] = z;
+        place = next;
     }
-    Read::Ended(place)
+    Ok(place)
 }
 
 // A part of a record, run by run, stored from a place of the lent list on.
@@ -103,115 +86,78 @@ fn read_part(
     part: Part,
     numbers: &mut [i32; MOST_NUMBERS],
     from: usize,
-) -> Read
+) -> Result<usize, Refusal>
     requires { Small part × (from + length (kinds_of (runs_of part)) ≤ most_numbers) }
     ensures { got result numbers.new ≡ into from (part_at part bytes.now at) numbers.old }
 {
-    let runs = run_count(part);
+    let runs = part.run_count();
     let mut place = at;
     let mut to = from;
-    let mut i = 0;
-    while i < runs {
-        let run = run_at(part, i);
+    for i in 0..runs {
+        let run = part.run_at(i);
         let kind = run.kind;
         let count = run.count;
-        match read_run(bytes, place, kind, count, numbers, to) {
-            Read::Ended(next) => {
-                place = next;
-                to += count;
-            }
-            Read::Refused(refusal) => {
-                return Read::Refused(refusal);
-            }
-        }
-        i += 1;
+        place = read_run(bytes, place, kind, count, numbers, to)?;
+        to += count;
     }
-    Read::Ended(place)
+    Ok(place)
 }
 
-// n vectors, each with so many owner numbers before it, stored from a place of the lent list on.
+// N vectors, each behind its owner if the layout has owners, behind W and D.
 fn read_vectors(
     bytes: &[u8],
     at: usize,
-    own: usize,
-    m: usize,
-    q: usize,
-    n: usize,
+    layout: Layout,
     numbers: &mut [i32; MOST_NUMBERS],
-    from: usize,
-) -> Read
-    requires { Small (Part.Vector own m q) × (own ≤ 1) × (from + n * owned_size own m q ≤ most_numbers) }
-    ensures { got result numbers.new ≡ into from (numbers_at (vector_kinds n own m q) bytes.now at) numbers.old }
+) -> Result<usize, Refusal>
+    requires { SizesStored numbers.old }
+    ensures { got result numbers.new
+        ≡ into (header_size layout) (numbers_at (vector_stage layout numbers.old) bytes.now at) numbers.old }
 {
-    let size = own + vector_size(m, q);
+    let m = count_at(numbers, 0) as usize;
+    let q = count_at(numbers, 1) as usize;
+    let n = count_at(numbers, 2) as usize;
+    let vector = Part::Vector(layout.own_count(), m, q);
     let mut place = at;
-    let mut to = from;
-    let mut k = 0;
-    while k < n {
-        match read_part(bytes, place, Part::Vector(own, m, q), numbers, to) {
-            Read::Ended(next) => {
-                place = next;
-                to += size;
-            }
-            Read::Refused(refusal) => {
-                return Read::Refused(refusal);
-            }
-        }
-        k += 1;
+    for k in 0..n {
+        let first = vector_start(layout, m, q, k);
+        place = read_part(bytes, place, vector, numbers, first)?;
     }
-    Read::Ended(place)
+    Ok(place)
 }
 
 // W, if the layout has it, and D, then N vectors, behind M, Q, N and C, which stand in the list.
-fn read_limited(bytes: &[u8], at: usize, layout: Layout, numbers: &mut [i32; MOST_NUMBERS]) -> Read
+fn read_limited(
+    bytes: &[u8],
+    at: usize,
+    layout: Layout,
+    numbers: &mut [i32; MOST_NUMBERS],
+) -> Result<usize, Refusal>
     requires { SizesStored numbers.old }
     ensures { got result numbers.new
         ≡ into 4 (stages_at (limit_stage layout ∷ vector_stage layout ∷ []) (take 4 numbers.old) bytes.now at) numbers.old }
 {
-    let m = numbers[0];
-    let q = count_of(numbers[1]);
-    let n = count_of(numbers[2]);
-    let c = numbers[3];
-    let weak = weak_count(layout);
-    match read_part(bytes, at, Part::Limits(weak, m, c), numbers, 4) {
-        Read::Ended(next) => {
-            let first = header_size(layout);
-            let own = own_count(layout);
-            read_vectors(bytes, next, own, count_of(m), q, n, numbers, first)
-        }
-        Read::Refused(refusal) => Read::Refused(refusal),
-    }
+    let limits = Part::Limits(layout.weak_count(), numbers[0], numbers[3]);
+    let next = read_part(bytes, at, limits, numbers, 4)?;
+    read_vectors(bytes, next, layout, numbers)
 }
 
 // Q, N and C, then what they call for, behind M, which stands in the list.
-fn read_sized(bytes: &[u8], at: usize, layout: Layout, numbers: &mut [i32; MOST_NUMBERS]) -> Read
+fn read_sized(bytes: &[u8], at: usize, layout: Layout, numbers: &mut [i32; MOST_NUMBERS]) -> Result<usize, Refusal>
     requires { StreamsStored numbers.old }
     ensures { got result numbers.new
         ≡ into 1 (stages_at (size_stage ∷ limit_stage layout ∷ vector_stage layout ∷ []) (take 1 numbers.old) bytes.now at) numbers.old }
 {
-    let m = numbers[0];
-    match read_part(bytes, at, Part::Sizes(m), numbers, 1) {
-        Read::Ended(next) => read_limited(bytes, next, layout, numbers),
-        Read::Refused(refusal) => Read::Refused(refusal),
-    }
+    let sizes = Part::Sizes(numbers[0]);
+    let next = read_part(bytes, at, sizes, numbers, 1)?;
+    read_limited(bytes, next, layout, numbers)
 }
 
 // Does the record begin with the opening of a layout?
 fn has_opening(bytes: &[u8], layout: Layout) -> bool
     ensures { result ≡ starts_with (opening layout) bytes.now }
 {
-    if bytes.len() < 4 {
-        return false;
-    }
-    let first = opening(layout);
-    let mut i = 0;
-    while i < 4 {
-        if first[i] != bytes[i] {
-            return false;
-        }
-        i += 1;
-    }
-    true
+    bytes.starts_with(&layout.opening())
 }
 
 // The layout of a record, by its opening. Of bytes that open as no record does it is the base's.
@@ -228,32 +174,26 @@ pub fn layout_of(bytes: &[u8]) -> Layout
 }
 
 // A record at the front of the bytes: its whole numbers into the lent list, and where it ended. What was taken before a refusal stays.
-pub fn read_record(bytes: &[u8], numbers: &mut [i32; MOST_NUMBERS]) -> Read
+pub fn read_record(bytes: &[u8], numbers: &mut [i32; MOST_NUMBERS]) -> Result<usize, Refusal>
     requires { length numbers.old ≡ most_numbers }
     ensures { got result numbers.new ≡ into 0 (read_record bytes.now) numbers.old }
 {
     let layout = layout_of(bytes);
     if !has_opening(bytes, layout) {
-        return Read::Refused(Refusal::Opening);
+        return Err(Refusal::Opening);
     }
-    match read_part(bytes, 4, Part::First, numbers, 0) {
-        Read::Ended(next) => read_sized(bytes, next, layout, numbers),
-        Read::Refused(refusal) => Read::Refused(refusal),
-    }
+    let next = read_part(bytes, 4, Part::First, numbers, 0)?;
+    read_sized(bytes, next, layout, numbers)
 }
 
 // The same of bytes that are one record and no more.
-pub fn read_whole(bytes: &[u8], numbers: &mut [i32; MOST_NUMBERS]) -> Read
+pub fn read_whole(bytes: &[u8], numbers: &mut [i32; MOST_NUMBERS]) -> Result<usize, Refusal>
     requires { length numbers.old ≡ most_numbers }
     ensures { got result numbers.new ≡ into 0 (read_whole bytes.now) numbers.old }
 {
-    match read_record(bytes, numbers) {
-        Read::Ended(at) => {
-            if at < bytes.len() {
-                return Read::Refused(Refusal::Trailing);
-            }
-            Read::Ended(at)
-        }
-        Read::Refused(refusal) => Read::Refused(refusal),
+    let at = read_record(bytes, numbers)?;
+    if at < bytes.len() {
+        return Err(Refusal::Trailing);
     }
+    Ok(at)
 }

@@ -30,6 +30,6 @@ abbrev pub mixed : ℕ → ℤ → ℕ
 mixed sum z = (sum * 1000003 + moved z) % 4294967291
 
 -- The checksum of the first numbers of a list, as many as n
-unfoldable pub checksum_of : List ℤ → ℕ → ℕ
+abbrev pub checksum_of : List ℤ → ℕ → ℕ
 checksum_of numbers zero = 0
 checksum_of numbers (suc n) = mixed (checksum_of numbers n) (get_or numbers n (pos 0))

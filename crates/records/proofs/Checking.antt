@@ -16,7 +16,7 @@ use Rattle.block.specs.Reading.{opening}
 use Rattle.block.specs.Conditions.{called_for}
 use Rattle.block.specs.declared.Layout.{Layout}
 use Rattle.refusals.specs.declared.Kind.TheVariants.{StreamCount}
-use Rattle.block.specs.declared.Read.TheVariants.{Ended, Refused}
+use Rattle.std.specs.Prelude.{Ok, Err}
 use Rattle.refusals.specs.declared.Refusal.TheVariants.{Ends, Trailing}
 use Rattle.block.proofs.Openings.{four}
 use Rattle.records.specs.Writing.{Verdict, fine, turned, checked, plain_of, bytes_for, record_of}
@@ -89,20 +89,20 @@ checking_start o numbers =
 -- What the check gives at each of its ends
 module _ (o : Layout) (numbers : List ℤ) (i size : ℕ) (c : Checking o numbers i size) where
   pub ends_short : i < length (called_for o numbers) → length numbers ≤ i
-      → Refused Ends ≡ as_read (length (record_of o numbers)) (checked (called_for o numbers) numbers)
+      → Err Ends ≡ as_read (length (record_of o numbers)) (checked (called_for o numbers) numbers)
   ends_short h l = rw (c.left, checked_short o numbers i h l)
 
   pub ends_turned : i < length (called_for o numbers) → i < length numbers → allowed (kind_at o numbers i) (get_or numbers i (pos 0)) ≡ false
-      → Refused (refusal_of (kind_at o numbers i) (get_or numbers i (pos 0)))
+      → Err (refusal_of (kind_at o numbers i) (get_or numbers i (pos 0)))
       ≡ as_read (length (record_of o numbers)) (checked (called_for o numbers) numbers)
   ends_turned h l e = rw (c.left, checked_turned o numbers i h l e)
 
   pub ends_long : length (called_for o numbers) ≤ i → i < length numbers
-      → Refused Trailing ≡ as_read (length (record_of o numbers)) (checked (called_for o numbers) numbers)
+      → Err Trailing ≡ as_read (length (record_of o numbers)) (checked (called_for o numbers) numbers)
   ends_long h l = rw (c.left, checked_long o numbers i h l)
 
   pub ends_fine : length (called_for o numbers) ≤ i → length numbers ≤ i
-      → Ended size ≡ as_read (length (record_of o numbers)) (checked (called_for o numbers) numbers)
+      → Ok size ≡ as_read (length (record_of o numbers)) (checked (called_for o numbers) numbers)
   ends_fine h l =
       let e : length (record_of o numbers) ≡ size = omega (arith, c.counted, ap length (bytes_none o numbers i h)) in
       rw (c.left, checked_fine o numbers i h l, e)

@@ -5,4 +5,5 @@ pub mod Writing
 pub mod Reading
 pub mod RoundTrip
 pub mod Readings
+pub mod Outcomes
 pub mod Beginnings

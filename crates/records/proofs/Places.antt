@@ -62,6 +62,13 @@ module _ (o : Layout) (numbers : List ℤ) (i : ℕ) (l : i ≤ length numbers) 
           let less : length (called_for o numbers) ≤ number_count o numbers = omega (arith, called_few o numbers, kinds_count o numbers) in
           rw (e, f) (sym (le-ltb i (length (called_for o numbers)) (omega (arith, ltb-false i (number_count o numbers) f))))
 
+-- What such a bound says of the place itself
+pub called_here : {o : Layout} {numbers : List ℤ} {i end : ℕ} → Called o numbers i end → i < end → i < length (called_for o numbers)
+called_here {o} {numbers} {i} {end} c h = ltb-true i (length (called_for o numbers)) (sym c.tells ∙ lt-ltb i end h)
+
+pub called_none : {o : Layout} {numbers : List ℤ} {i end : ℕ} → Called o numbers i end → end ≤ i → length (called_for o numbers) ≤ i
+called_none {o} {numbers} {i} {end} c h = ltb-false i (length (called_for o numbers)) (sym c.tells ∙ le-ltb i end h)
+
 -- A list whose first numbers are in their ranges
 module _ (o : Layout) (numbers : List ℤ) (i : ℕ) (l : i ≤ length numbers) (first : FirstAllowed o numbers i) where
   abbrev m : ℤ

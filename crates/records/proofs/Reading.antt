@@ -12,7 +12,7 @@ use Rattle.model.proofs.Bounds.{width_small}
 use Rattle.block.specs.Reading.{count_at, layout_of, read_whole, Got, got, into, most_numbers}
 use Rattle.block.specs.Contents.{block_of}
 use Rattle.refusals.specs.Filling.{refused, fitted}
-use Rattle.block.specs.declared.Read.TheVariants.{Ended, Refused}
+use Rattle.std.specs.Prelude.{Ok, Err}
 use Rattle.refusals.specs.declared.Refusal.{Refusal}
 use Rattle.block.proofs.Parts.{weak_few}
 use Rattle.block.proofs.Places.{vectors_count}
@@ -39,7 +39,7 @@ sets_start l zs h =
 -- A list of which a record's reading made another
 module _ (bytes : List ℕ) (room : ℕ) (list list' : List ℤ) where
   -- Read to its end
-  module _ (at : ℕ) (size : length list ≡ most_numbers) (e : got (Ended at) list' ≡ into 0 (read_whole bytes) list) where
+  module _ (at : ℕ) (size : length list ≡ most_numbers) (e : got (Ok at) list' ≡ into 0 (read_whole bytes) list) where
     pub lent_sized : Sized (layout_of bytes) list'
     unfolding block_of
     lent_sized =
@@ -58,6 +58,6 @@ module _ (bytes : List ℕ) (room : ℕ) (list list' : List ℤ) where
     read_ended = rw (← ap (λ (g : Got). g.read) e) (ap (fitted room) (sym (lent_numbers bytes at list list' size e)))
 
   -- Turned back
-  pub read_refused : (r : Refusal) → got (Refused r) list' ≡ into 0 (read_whole bytes) list → reading bytes room ≡ refused r
+  pub read_refused : (r : Refusal) → got (Err r) list' ≡ into 0 (read_whole bytes) list → reading bytes room ≡ refused r
   unfolding reading
   read_refused r e = rw (← ap (λ (g : Got). g.read) e)

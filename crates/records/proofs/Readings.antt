@@ -14,7 +14,7 @@ use Rattle.refusals.specs.Filling.{Filling, refused, filled, fitted}
 use Rattle.refusals.specs.declared.Refusal.TheVariants.{Opening, Ends, Malformed, Streams, Width, Vectors, Clip, Share, Diagonal}
 use Rattle.refusals.specs.declared.Refusal.TheVariants.{Entry, Received, Prior, Trailing, Buffer, Crowded, Weak, Owner}
 use Rattle.block.proofs.Readings.{listing_record, weakened_record, owned_record}
-use Rattle.records.specs.Writing.{checked, bytes_for, record_of, writing_in, told_by, writing, reading}
+use Rattle.records.specs.Writing.{checked, bytes_for, record_of, writing_in, writing, reading}
 
 -- "That vector twice, C = 10, D = 3": R rows (1, 1), (0, 1), y = (1, -1), priors 0
 abbrev vector : List ℤ
@@ -121,6 +121,6 @@ records =
 
 pub all_readings : (map (λ c. writing c.told c.given c.room) lists ≡ map (λ c. c.comes) lists)
     × (map (λ c. reading c.given c.room) records ≡ map (λ c. c.comes) records)
-unfolding lists records writing checked bytes_for record_of writing_in told_by called_by vector_kinds kinds_of runs_of matrix_runs folded bytes_of groups_of fitted reading
+unfolding lists records writing checked bytes_for record_of writing_in called_by vector_kinds kinds_of runs_of matrix_runs folded bytes_of groups_of fitted reading
     read_whole read_record layout_of stages_at numbers_at by_number number_at groups above_digits last_group unfolded starts_with
 all_readings = (refl, refl)

@@ -16,14 +16,15 @@ use Rattle.wire.specs.Writing.{bytes_of}
 use Rattle.wire.specs.Folding.{folded, unfolded}
 use Rattle.wire.proofs.RoundTrip.{folded_unfolded, read_at, read_splits}
 use Rattle.refusals.specs.Table.{allowed, is_folded}
-use Rattle.block.specs.Reading.{opening, whole_of, Parse, numbers_at, starts_with, layout_of, read_record, at_end, read_whole, longest_record}
+use Rattle.block.specs.Reading.{opening, whole_of, Parse, numbers_at, starts_with, layout_of, read_record, at_end, read_whole, longest_record, Read}
 use Rattle.block.specs.Conditions.{called_for}
 use Rattle.refusals.specs.Filling.{filled}
 use Rattle.refusals.specs.declared.Kind.{Kind}
 use Rattle.block.specs.declared.Layout.{Layout}
 use Rattle.block.specs.declared.Layout.TheVariants.{Base, Weakened, Owned}
-use Rattle.block.specs.declared.Read.{Read}
-use Rattle.block.specs.declared.Read.TheVariants.{Ended, Refused}
+use Rattle.refusals.specs.declared.Refusal.{Refusal}
+use Rattle.refusals.specs.declared.Refusal.TheVariants.{Opening}
+use Rattle.std.specs.Prelude.{Result, Ok, Err}
 use Rattle.block.proofs.Reading.{numbers_taken, first_read}
 use Rattle.refusals.proofs.Fillings.{not_both, fitted_enough, fitted_is}
 use Rattle.block.proofs.Parts.{AllAllowed, all_allowed}
@@ -32,15 +33,13 @@ use Rattle.block.proofs.Conditions.{ends_last}
 use Rattle.block.proofs.Size.{accepted_size}
 use Rattle.block.proofs.Openings.{four, layout_only}
 use Rattle.records.specs.Writing.{Verdict, fine, turned, checked, plain_of, bytes_for, record_of, by_verdict, writing_in, opening_number, told_by, by_told, writing, numbers_read, reading}
-use Rattle.records.specs.declared.Told.{Told}
-use Rattle.records.specs.declared.Told.TheVariants.{Known, Unknown}
 use Rattle.records.proofs.Places.{AllWritten, each_written}
 use Rattle.records.proofs.Checking.{record_length}
 use Rattle.records.proofs.Writing.{fine_allowed, allowed_fine, write_enough}
 
 -- Numbers that are written at a place are read there
 read_bytes : (ks : List Kind) (zs : List ℤ) → AllAllowed ks zs → AllWritten ks zs → (l : List ℕ) (at : ℕ) (after : List ℕ)
-    → drop at l ≡ bytes_for ks zs ++ after → numbers_at ks l at ≡ record { numbers = zs; read = Ended (at + length (bytes_for ks zs)) }
+    → drop at l ≡ bytes_for ks zs ++ after → numbers_at ks l at ≡ record { numbers = zs; read = Ok (at + length (bytes_for ks zs)) }
 unfolding bytes_for numbers_at
 read_bytes [] [] a g l at after e = let same : at + 0 ≡ at = omega arith in rw same
 read_bytes [] (z ∷ zs) a g l at after e = absurd a
@@ -55,7 +54,7 @@ read_bytes (k ∷ ks) (z ∷ zs) a g l at after e =
     sym (drop-drop (length (bytes_of n)) at l) ∙ ap (drop (length (bytes_of n))) splits ∙ drop-append_seam (bytes_of n) (rest ++ after) in
     numbers_taken k ks l at n next (read_at l at (rest ++ after) n w.small splits) (ap (allowed k) w.back ∙ a.0)
     ∙ ap (λ (p : Parse). record { numbers = whole_of k n ∷ p.numbers; read = p.read }) (read_bytes ks zs a.1 g.1 l next after further)
-    ∙ ap₂ (λ (x : ℤ) (m : ℕ). record { numbers = x ∷ zs; read = Ended m }) w.back (omega (arith, length-append (bytes_of n) rest))
+    ∙ ap₂ (λ (x : ℤ) (m : ℕ). record { numbers = x ∷ zs; read = Ok m }) w.back (omega (arith, length-append (bytes_of n) rest))
 
 -- A plain number that was read is what its whole number is written as
 plain_whole : (k : Kind) (n : ℕ) → plain_of k (whole_of k n) ≡ n
@@ -66,7 +65,7 @@ plain_whole k n = go (is_folded k)
     go false = refl
 
 -- Numbers that were read to their end are what is written there
-bytes_read : (ks : List Kind) (l : List ℕ) (at end : ℕ) → Bytes l → (numbers_at ks l at).read ≡ Ended end
+bytes_read : (ks : List Kind) (l : List ℕ) (at end : ℕ) → Bytes l → (numbers_at ks l at).read ≡ Ok end
     → drop at l ≡ bytes_for ks (numbers_at ks l at).numbers ++ drop end l
 unfolding bytes_for numbers_at
 bytes_read [] l at end b e = let same : at ≡ end = cc in ap (λ (n : ℕ). drop n l) same
@@ -109,7 +108,7 @@ record_behind o numbers = drop_at (opening o) (bytes_for (called_for o numbers) 
 
 -- A list that passed is read from its record, to its end
 record_read : (o : Layout) (numbers : List ℤ) → checked (called_for o numbers) numbers ≡ fine
-    → ((read_whole (record_of o numbers)).numbers ≡ numbers) × ((read_whole (record_of o numbers)).read ≡ Ended (length (record_of o numbers)))
+    → ((read_whole (record_of o numbers)).numbers ≡ numbers) × ((read_whole (record_of o numbers)).read ≡ Ok (length (record_of o numbers)))
     × (layout_of (record_of o numbers) ≡ o)
 unfolding read_whole
 record_read o numbers e =
@@ -130,7 +129,7 @@ record_read o numbers e =
     )
 
 -- A record that is read to its end is that of its numbers in its layout, and they pass
-read_record_lem : (bytes : List ℕ) (at : ℕ) → Bytes bytes → (read_whole bytes).read ≡ Ended at → let numbers = (read_whole bytes).numbers in
+read_record_lem : (bytes : List ℕ) (at : ℕ) → Bytes bytes → (read_whole bytes).read ≡ Ok at → let numbers = (read_whole bytes).numbers in
     (checked (called_for (layout_of bytes) numbers) numbers ≡ fine) × (record_of (layout_of bytes) numbers ≡ bytes)
 unfolding read_whole record_of
 read_record_lem bytes at b e =
@@ -139,7 +138,7 @@ read_record_lem bytes at b e =
     let last = ends_last bytes at e in
     let called = accepted_called bytes at last.0 in
     let ks = called_for o numbers in
-    let read_is : (numbers_at ks bytes 4).read ≡ Ended at = ap (λ (p : Parse). p.read) called in
+    let read_is : (numbers_at ks bytes 4).read ≡ Ok at = ap (λ (p : Parse). p.read) called in
     let are : (numbers_at ks bytes 4).numbers ≡ numbers = ap (λ (p : Parse). p.numbers) called in
     let none : drop at bytes ≡ [] = ap (λ (n : ℕ). drop n bytes) last.1 ∙ drop-length bytes in
     let behind : drop 4 bytes ≡ bytes_for ks numbers =
@@ -150,22 +149,20 @@ read_record_lem bytes at b e =
     )
 
 -- The number of an opening tells its layout, and no other number does
-told_number : (o : Layout) → told_by (opening_number o) ≡ Known o
-unfolding told_by
+told_number : (o : Layout) → told_by (opening_number o) ≡ Ok o
 told_number Base = refl
 told_number Weakened = refl
 told_number Owned = refl
 
-told_only : (told : ℕ) (o : Layout) → told_by told ≡ Known o → opening_number o ≡ told
-unfolding told_by
-told_only told o e = test Base _ (test Weakened _ (test Owned Unknown (λ g. let z : ◌≡◌ {A = ℕ} 0 1 = cc in absurd (omega arith)))) e
+told_only : (told : ℕ) (o : Layout) → told_by told ≡ Ok o → opening_number o ≡ told
+told_only told o e = test Base _ (test Weakened _ (test Owned (Err Opening) (λ g. let z : ◌≡◌ {A = ℕ} 0 1 = cc in absurd (omega arith)))) e
   where
     -- A test for one opening, and what is told where it fails
-    test : (x : Layout) (other : Told) → (other ≡ Known o → opening_number o ≡ told)
-        → cond (eqb told (opening_number x)) (Known x) other ≡ Known o → opening_number o ≡ told
+    test : (x : Layout) (other : Result Layout Refusal) → (other ≡ Ok o → opening_number o ≡ told)
+        → cond (eqb told (opening_number x)) (Ok x) other ≡ Ok o → opening_number o ≡ told
     test x other further = go (eqb told (opening_number x)) refl
       where
-        go : (b : Bool) → eqb told (opening_number x) ≡ b → cond b (Known x) other ≡ Known o → opening_number o ≡ told
+        go : (b : Bool) → eqb told (opening_number x) ≡ b → cond b (Ok x) other ≡ Ok o → opening_number o ≡ told
         go true f g = let same : x ≡ o = cc in ap opening_number (sym same) ∙ sym (eqb-true told (opening_number x) f)
         go false f g = further g
 
@@ -181,25 +178,25 @@ write_accepted : (told : ℕ) (numbers : List ℤ) (room : ℕ) (bytes : List �
 unfolding writing writing_in
 write_accepted told numbers room bytes e = go (told_by told) refl e
   where
-    by : (o : Layout) → told_by told ≡ Known o → (v : Verdict) → checked (called_for o numbers) numbers ≡ v
+    by : (o : Layout) → told_by told ≡ Ok o → (v : Verdict) → checked (called_for o numbers) numbers ≡ v
         → by_verdict room (record_of o numbers) v ≡ filled bytes → Accepted told numbers bytes
     by o t fine f g = record { layout = o; number = told_only told o t; passes = f; is = fitted_is room (record_of o numbers) bytes g }
     by o t (turned r) f g = absurd (not_both refl g)
 
-    go : (t : Told) → told_by told ≡ t → by_told numbers room t ≡ filled bytes → Accepted told numbers bytes
-    go (Known o) t g = by o t (checked (called_for o numbers) numbers) refl g
-    go Unknown t g = absurd (not_both refl g)
+    go : (t : Result Layout Refusal) → told_by told ≡ t → by_told numbers room t ≡ filled bytes → Accepted told numbers bytes
+    go (Ok o) t g = by o t (checked (called_for o numbers) numbers) refl g
+    go (Err r) t g = absurd (not_both refl g)
 
 -- A record that is accepted was read to its end, and its numbers are handed out
 pub read_accepted : (bytes : List ℕ) (places : ℕ) (numbers : List ℤ) → reading bytes places ≡ filled numbers
-    → (at : ℕ) × ((read_whole bytes).read ≡ Ended at) × ((read_whole bytes).numbers ≡ numbers)
+    → (at : ℕ) × ((read_whole bytes).read ≡ Ok at) × ((read_whole bytes).numbers ≡ numbers)
 unfolding reading
 read_accepted bytes places numbers e = go (read_whole bytes).read refl e
   where
     go : (r : Read) → (read_whole bytes).read ≡ r → numbers_read places (read_whole bytes).numbers r ≡ filled numbers
-        → (at : ℕ) × ((read_whole bytes).read ≡ Ended at) × ((read_whole bytes).numbers ≡ numbers)
-    go (Ended at) f g = (at, f, fitted_is places (read_whole bytes).numbers numbers g)
-    go (Refused r) f g = absurd (not_both refl g)
+        → (at : ℕ) × ((read_whole bytes).read ≡ Ok at) × ((read_whole bytes).numbers ≡ numbers)
+    go (Ok at) f g = (at, f, fitted_is places (read_whole bytes).numbers numbers g)
+    go (Err r) f g = absurd (not_both refl g)
 
 -- "The reader on a written record returns the very numbers", into any list that has the places; and its opening is the one that was told
 pub written_read : (told : ℕ) (numbers : List ℤ) (room : ℕ) (bytes : List ℕ) → writing told numbers room ≡ filled bytes

@@ -9,13 +9,12 @@ use lib.IntN.{ℤ, pos}
 use Rattle.wire.specs.Writing.{bytes_of, put}
 use Rattle.wire.proofs.Writing.{put_length, put_nil, put_append}
 use Rattle.refusals.specs.Table.{allowed, refusal_of}
-use Rattle.block.specs.Reading.{opening}
+use Rattle.block.specs.Reading.{opening, Read}
 use Rattle.block.specs.Conditions.{called_for}
 use Rattle.block.specs.declared.Layout.{Layout}
 use Rattle.refusals.specs.declared.Kind.{Kind}
 use Rattle.refusals.specs.Filling.{refused, filled}
-use Rattle.block.specs.declared.Read.{Read}
-use Rattle.block.specs.declared.Read.TheVariants.{Ended, Refused}
+use Rattle.std.specs.Prelude.{Ok, Err}
 use Rattle.refusals.specs.declared.Refusal.{Refusal}
 use Rattle.refusals.specs.declared.Refusal.TheVariants.{Buffer}
 use Rattle.refusals.proofs.Fillings.{fitted_short, fitted_enough}
@@ -97,17 +96,17 @@ module _ (o : Layout) (numbers : List ℤ) where
   abbrev answer : Read
   answer = as_read (length (record_of o numbers)) (checked (called_for o numbers) numbers)
 
-  pub check_fine : (size : ℕ) → answer ≡ Ended size → Fine o numbers size
+  pub check_fine : (size : ℕ) → answer ≡ Ok size → Fine o numbers size
   check_fine size e = go (checked (called_for o numbers) numbers) refl e
     where
-      go : (v : Verdict) → checked (called_for o numbers) numbers ≡ v → as_read (length (record_of o numbers)) v ≡ Ended size → Fine o numbers size
+      go : (v : Verdict) → checked (called_for o numbers) numbers ≡ v → as_read (length (record_of o numbers)) v ≡ Ok size → Fine o numbers size
       go fine f g = record { fine_is = f; size_is = cc }
       go (turned r) f g = let z : ◌≡◌ {A = ℕ} 0 1 = cc in absurd (omega arith)
 
-  check_turned : (r : Refusal) → answer ≡ Refused r → checked (called_for o numbers) numbers ≡ turned r
+  check_turned : (r : Refusal) → answer ≡ Err r → checked (called_for o numbers) numbers ≡ turned r
   check_turned r e = go (checked (called_for o numbers) numbers) refl e
     where
-      go : (v : Verdict) → checked (called_for o numbers) numbers ≡ v → as_read (length (record_of o numbers)) v ≡ Refused r
+      go : (v : Verdict) → checked (called_for o numbers) numbers ≡ v → as_read (length (record_of o numbers)) v ≡ Err r
           → checked (called_for o numbers) numbers ≡ turned r
       go fine f g = let z : ◌≡◌ {A = ℕ} 0 1 = cc in absurd (omega arith)
       go (turned s) f g = let same : s ≡ r = cc in f ∙ ap turned same
@@ -122,6 +121,6 @@ module _ (o : Layout) (numbers : List ℤ) where
     unfolding writing_in
     write_enough size p h = rw p.fine_is (fitted_enough room (record_of o numbers) (omega (arith, p.size_is)))
 
-    pub write_refused : (r : Refusal) → answer ≡ Refused r → writing_in o numbers room ≡ refused r
+    pub write_refused : (r : Refusal) → answer ≡ Err r → writing_in o numbers room ≡ refused r
     unfolding writing_in
     write_refused r e = rw (check_turned r e)

@@ -1,15 +1,15 @@
 -- What the steps of writing and reading ask and give.
-use Rattle.std.specs.Prelude.{ℕ, ◌*◌, ◌≤◌, ◌<◌, ◌≡◌, true, List, ltb, length, get_or, ℤ, pos}
+use Rattle.std.specs.Prelude.{ℕ, ◌*◌, ◌≤◌, ◌<◌, ◌≡◌, true, List, ltb, length, get_or, ℤ, pos, Result, Ok, Err}
 use Rattle.model.specs.Block.{most_streams, most_width, most_bits, most_vectors}
 use Rattle.refusals.specs.Table.{allowed}
-use Rattle.block.specs.Reading.{header_size, count_at, most_numbers}
+use Rattle.refusals.specs.Filling.{Filling, refused, filled, buffer_after}
+use Rattle.block.specs.Reading.{header_size, count_at, most_numbers, Read}
 use Rattle.block.specs.Contents.{vector_start}
 use Rattle.block.specs.Conditions.{called_for}
 use Rattle.refusals.specs.declared.Kind.{Kind}
+use Rattle.refusals.specs.declared.Refusal.{Refusal}
 use Rattle.refusals.specs.declared.Kind.TheVariants.{StreamCount}
 use Rattle.block.specs.declared.Layout.{Layout}
-use Rattle.block.specs.declared.Read.{Read}
-use Rattle.block.specs.declared.Read.TheVariants.{Ended, Refused}
 use Rattle.records.specs.Writing.{Verdict, fine, turned, checked, record_of}
 
 -- The kind that a list calls for at a place
@@ -46,10 +46,19 @@ pub record Called (layout : Layout) (numbers : List ℤ) (i end : ℕ) : Type 0 
 
 -- A verdict with the record's length
 abbrev pub as_read : ℕ → Verdict → Read
-as_read size fine = Ended size
-as_read size (turned r) = Refused r
+as_read size fine = Ok size
+as_read size (turned r) = Err r
 
 -- What writing a list asks: it was checked, and the buffer has room for its record
 pub record WriteAsked (layout : Layout) (numbers : List ℤ) (room : ℕ) : Type 0 where
   pub fine_is : checked (called_for layout numbers) numbers ≡ fine
   pub buffer : length (record_of layout numbers) ≤ room
+
+-- What a call that fills lent memory comes to: how many entries it wrote, or its refusal
+abbrev pub counted : {A : Type 0} → Filling A → Result ℕ Refusal
+counted (refused r) = Err r
+counted (filled entries) = Ok (length entries)
+
+-- and the lent memory afterwards
+abbrev pub Fills : {A : Type 0} → Filling A → List A → Result ℕ Refusal → List A → Type 0
+Fills f old result new = (result ≡ counted f) × (new ≡ buffer_after f old)

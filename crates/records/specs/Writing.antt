@@ -1,21 +1,17 @@
 -- Document 02, Points 2, 4 and 7: "a list of the record's whole numbers, unfolded, in; record bytes out", and the way back. "The writer is now
 -- told the opening (1 if unknown)".
-use Rattle.std.specs.Prelude.{ℕ, cond, eqb, List, [], ◌∷◌, ◌++◌, ℤ, nat_abs}
+use Rattle.std.specs.Prelude.{ℕ, cond, List, [], ◌∷◌, ◌++◌, ℤ, nat_abs, Result, Ok, Err}
 use Rattle.wire.specs.Writing.{bytes_of}
 use Rattle.wire.specs.Folding.{folded}
 use Rattle.refusals.specs.Table.{allowed, is_folded, refusal_of}
-use Rattle.block.specs.Reading.{opening, read_whole}
+use Rattle.block.specs.Reading.{opening, read_whole, Read}
+pub use Rattle.block.specs.Reading.{opening_number, told_by}
 use Rattle.block.specs.Conditions.{called_for}
 use Rattle.refusals.specs.Filling.{Filling, refused, fitted}
 use Rattle.refusals.specs.declared.Kind.{Kind}
 use Rattle.refusals.specs.declared.Refusal.{Refusal}
 use Rattle.block.specs.declared.Layout.{Layout}
-use Rattle.block.specs.declared.Layout.TheVariants.{Base, Weakened, Owned}
-use Rattle.refusals.specs.declared.Refusal.TheVariants.{Opening, Ends, Trailing}
-use Rattle.block.specs.declared.Read.{Read}
-use Rattle.block.specs.declared.Read.TheVariants.{Ended, Refused}
-use Rattle.records.specs.declared.Told.{Told}
-use Rattle.records.specs.declared.Told.TheVariants.{Known, Unknown}
+use Rattle.refusals.specs.declared.Refusal.TheVariants.{Ends, Trailing}
 
 -- A list may be written, or is turned back
 pub data Verdict : Type 0 where
@@ -53,22 +49,10 @@ by_verdict room bytes (turned r) = refused r
 unfoldable pub writing_in : Layout → List ℤ → ℕ → Filling ℕ
 writing_in layout numbers room = by_verdict room (record_of layout numbers) (checked (called_for layout numbers) numbers)
 
--- The number that tells an opening: its last byte less 0x30
-abbrev pub opening_number : Layout → ℕ
-opening_number Base = 1
-opening_number Weakened = 2
-opening_number Owned = 3
-
--- The layout that a number tells
-unfoldable pub told_by : ℕ → Told
-told_by number =
-    cond (eqb number (opening_number Base)) (Known Base)
-    (cond (eqb number (opening_number Weakened)) (Known Weakened) (cond (eqb number (opening_number Owned)) (Known Owned) Unknown))
-
 -- "(1 if unknown)", whatever the list and the buffer are
-abbrev pub by_told : List ℤ → ℕ → Told → Filling ℕ
-by_told numbers room (Known layout) = writing_in layout numbers room
-by_told numbers room Unknown = refused Opening
+abbrev pub by_told : List ℤ → ℕ → Result Layout Refusal → Filling ℕ
+by_told numbers room (Ok layout) = writing_in layout numbers room
+by_told numbers room (Err r) = refused r
 
 -- Writing any list, by the number that tells the opening, into a lent buffer of `room` bytes
 unfoldable pub writing : ℕ → List ℤ → ℕ → Filling ℕ
@@ -76,8 +60,8 @@ writing told numbers room = by_told numbers room (told_by told)
 
 -- Of a record that is read: its numbers, 14 where they are more than the lent list has places
 abbrev pub numbers_read : ℕ → List ℤ → Read → Filling ℤ
-numbers_read room numbers (Ended at) = fitted room numbers
-numbers_read room numbers (Refused r) = refused r
+numbers_read room numbers (Ok at) = fitted room numbers
+numbers_read room numbers (Err r) = refused r
 
 -- Reading any bytes into a lent list of `room` numbers: refused as a record is, then by 14
 unfoldable pub reading : List ℕ → ℕ → Filling ℤ

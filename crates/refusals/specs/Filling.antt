@@ -1,7 +1,7 @@
 -- Document 02, Point 2: what a call that fills lent memory comes to, whatever its entries are. "Here and in every later call that fills lent
 -- memory, unless it says otherwise, an acceptance returns how many entries it wrote and alters no others, a refusal returns minus its number
 -- and alters none." Document 01 says the same of the reply.
-use Rattle.std.specs.Prelude.{ℕ, cond, List, ◌++◌, ltb, length, drop, ℤ, pos, neg_ℤ}
+use Rattle.std.specs.Prelude.{ℕ, cond, List, ◌++◌, ltb, length, drop, ℤ, pos, neg_ℤ, Result, Ok, Err}
 use Rattle.refusals.specs.Table.{refusal_number}
 use Rattle.refusals.specs.declared.Refusal.{Refusal}
 use Rattle.refusals.specs.declared.Refusal.TheVariants.{Buffer}
@@ -15,6 +15,11 @@ pub data Filling (A : Type 0) : Type 0 where
 abbrev pub returned : {A : Type 0} → Filling A → ℤ
 returned (refused r) = neg_ℤ (pos (refusal_number r))
 returned (filled entries) = pos (length entries)
+
+-- The same of a call that says how many entries it wrote
+abbrev pub returned_as : Result ℕ Refusal → ℤ
+returned_as (Ok count) = pos count
+returned_as (Err r) = neg_ℤ (pos (refusal_number r))
 
 -- The lent memory afterwards: an acceptance "alters no others", a refusal "alters none"
 abbrev pub buffer_after : {A : Type 0} → Filling A → List A → List A

@@ -3,6 +3,8 @@
 use Rattle.std.specs.Prelude.{ℕ, Bool, true, false, cond, not, ◌&&◌, ◌||◌, List, [], ◌∷◌, ℤ, pos, neg_ℤ}
 use Rattle.std.specs.Int.Signed.{le_z}
 use Rattle.model.specs.Block.{most_streams, most_vectors, most_clip, most_share, most_entry, most_received, most_prior, most_owner, widths}
+use Rattle.wire.specs.declared.NumberError.{NumberError}
+use Rattle.wire.specs.declared.NumberError.TheVariants.{Short, Malformed as NoNumber}
 use Rattle.refusals.specs.declared.Kind.{Kind}
 use Rattle.refusals.specs.declared.Kind.TheVariants.{StreamCount, SymbolWidth, VectorCount, ClipLevel, WeakLevel, NodeShare, OwnerNumber, DiagonalEntry, RightPart, ReceivedPart, BitPrior}
 use Rattle.refusals.specs.declared.Refusal.{Refusal}
@@ -27,6 +29,11 @@ refusal_number Buffer = 14
 refusal_number Crowded = 15
 refusal_number Weak = 16
 refusal_number Owner = 17
+
+-- The refusals of "any number" that cannot be read
+abbrev pub unreadable : NumberError → Refusal
+unreadable Short = Ends
+unreadable NoNumber = Malformed
 
 -- From one number to another
 abbrev pub between : ℤ → ℤ → ℤ → Bool

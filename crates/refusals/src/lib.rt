@@ -2,33 +2,48 @@
 // with document 02's 15 to 17. The rule for calls that fill lent memory is among the definitions.
 #![tactic(auto)]
 
-ghost use Rattle.std.specs.Prelude.{◌≡◌, pos, neg_ℤ};
-ghost use Rattle.refusals.specs.Table.{refusal_number, refusal_of, between, one_of, crowded, allowed, is_folded};
+ghost use Rattle.std.specs.Prelude.{◌≡◌, ◌<◌, ◌^◌, pos, neg_ℤ, IfOk};
+ghost use Rattle.refusals.specs.Filling.{returned_as};
+ghost use Rattle.refusals.specs.Table.{refusal_number, refusal_of, between, one_of, crowded, allowed, is_folded, unreadable};
 ghost use Rattle.model.specs.Block.{widths};
 
-// Why a record is turned back; the definition refusal_number has the documents' number for each.
-#[derive(Clone, Copy)]
+use wire::NumberError;
+
+// Why a record is turned back, with the documents' number for each.
+#[derive(Clone, Copy, Debug, PartialEq, Eq)]
 pub enum Refusal {
-    Opening,
-    Ends,
-    Malformed,
-    Streams,
-    Width,
-    Vectors,
-    Clip,
-    Share,
-    Diagonal,
-    Entry,
-    Received,
-    Prior,
-    Trailing,
-    Buffer,
+    Opening = 1,
+    Ends = 2,
+    Malformed = 3,
+    Streams = 4,
+    Width = 5,
+    Vectors = 6,
+    Clip = 7,
+    Share = 8,
+    Diagonal = 9,
+    Entry = 10,
+    Received = 11,
+    Prior = 12,
+    Trailing = 13,
+    Buffer = 14,
     // four streams of 256 points
-    Crowded,
+    Crowded = 15,
     // W
-    Weak,
+    Weak = 16,
     // an owner number
-    Owner,
+    Owner = 17,
+}
+
+// Why no number can be read, as the refusal of any number.
+impl From<NumberError> for Refusal {
+    ghost from_gives = { λ e refusal. refusal ≡ unreadable e };
+
+    fn from(e: NumberError) -> Refusal {
+        match e {
+            NumberError::Short => Refusal::Ends,
+            NumberError::Malformed => Refusal::Malformed,
+        }
+    }
 }
 
 // The kinds of number in a record, each with a range of its own; the symbol width's depends on M, W's ends at C, the share's begins at M.
@@ -50,32 +65,20 @@ pub enum Kind {
 fn between(z: i32, low: i32, high: i32) -> bool
     ensures { result ≡ between low high z }
 {
-    low <= z && z <= high
+    (low..=high).contains(&z)
 }
 
 fn is_width(z: i32) -> bool
     ensures { result ≡ one_of widths z }
 {
-    if between(z, 1, 1) {
-        return true;
-    }
-    if between(z, 2, 2) {
-        return true;
-    }
-    if between(z, 4, 4) {
-        return true;
-    }
-    if between(z, 6, 6) {
-        return true;
-    }
-    between(z, 8, 8)
+    matches!(z, 1 | 2 | 4 | 6 | 8)
 }
 
 // Are four streams of 256 points asked for?
 fn crowded(m: i32, z: i32) -> bool
     ensures { result ≡ crowded m z }
 {
-    between(z, 8, 8) && between(m, 4, 4)
+    z == 8 && m == 4
 }
 
 // Is Q one of the widths, and one that goes with M?
@@ -107,19 +110,7 @@ pub fn allowed(kind: Kind, z: i32) -> bool
 pub fn is_folded(kind: Kind) -> bool
     ensures { result ≡ is_folded kind }
 {
-    match kind {
-        Kind::RightPart => true,
-        Kind::ReceivedPart => true,
-        Kind::BitPrior => true,
-        Kind::StreamCount => false,
-        Kind::SymbolWidth(_) => false,
-        Kind::VectorCount => false,
-        Kind::ClipLevel => false,
-        Kind::WeakLevel(_) => false,
-        Kind::NodeShare(_) => false,
-        Kind::OwnerNumber => false,
-        Kind::DiagonalEntry => false,
-    }
+    matches!(kind, Kind::RightPart | Kind::ReceivedPart | Kind::BitPrior)
 }
 
 // The refusal of a number that is out of the range of its kind. A Q is checked for its width first.
@@ -128,13 +119,8 @@ pub fn refusal_of(kind: Kind, z: i32) -> Refusal
 {
     match kind {
         Kind::StreamCount => Refusal::Streams,
-        Kind::SymbolWidth(_) => {
-            if is_width(z) {
-                Refusal::Crowded
-            } else {
-                Refusal::Width
-            }
-        }
+        Kind::SymbolWidth(_) if is_width(z) => Refusal::Crowded,
+        Kind::SymbolWidth(_) => Refusal::Width,
         Kind::VectorCount => Refusal::Vectors,
         Kind::ClipLevel => Refusal::Clip,
         Kind::WeakLevel(_) => Refusal::Weak,
@@ -151,30 +137,23 @@ pub fn refusal_of(kind: Kind, z: i32) -> Refusal
 pub fn refusal_number(refusal: Refusal) -> u32
     ensures { result ≡ refusal_number refusal }
 {
-    match refusal {
-        Refusal::Opening => 1,
-        Refusal::Ends => 2,
-        Refusal::Malformed => 3,
-        Refusal::Streams => 4,
-        Refusal::Width => 5,
-        Refusal::Vectors => 6,
-        Refusal::Clip => 7,
-        Refusal::Share => 8,
-        Refusal::Diagonal => 9,
-        Refusal::Entry => 10,
-        Refusal::Received => 11,
-        Refusal::Prior => 12,
-        Refusal::Trailing => 13,
-        Refusal::Buffer => 14,
-        Refusal::Crowded => 15,
-        Refusal::Weak => 16,
-        Refusal::Owner => 17,
-    }
+    refusal as u32
 }
 
 // Minus a refusal's number, as a call returns it.
 pub fn refused(refusal: Refusal) -> i64
     ensures { result ≡ neg_ℤ (pos (refusal_number refusal)) }
 {
-    -(refusal_number(refusal) as i64)
+    -i64::from(refusal_number(refusal))
+}
+
+// What a call comes to, as it returns it: how many entries it wrote, or minus the number of its refusal.
+pub fn returned(outcome: Result<usize, Refusal>) -> i64
+    requires { IfOk outcome (λ n. n < 2 ^ 63) }
+    ensures { result ≡ returned_as outcome }
+{
+    match outcome {
+        Ok(count) => count as i64,
+        Err(refusal) => refused(refusal),
+    }
 }

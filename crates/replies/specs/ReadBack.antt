@@ -1,11 +1,9 @@
 -- What the bytes of a reply say, read from the bytes alone. Document 01, "The record": "Reply: 43 42 53 31; M, Q, N. For each vector: 0
 -- complete or 1 stopped, nodes walked, label, M × Q folded soft values". It is the way back of Reply.
-use Rattle.std.specs.Prelude.{ℕ, zero, suc, ◌+◌, ◌*◌, List, [], ◌∷◌, map, eqb, length, get_or, take, drop}
+use Rattle.std.specs.Prelude.{ℕ, zero, suc, ◌+◌, ◌*◌, List, [], ◌∷◌, map, eqb, length, get_or, take, drop, Ok, Err}
 use Rattle.model.specs.Block.{Block, Answer}
-use Rattle.wire.specs.Reading.{number_at}
+use Rattle.wire.specs.Reading.{number_at, Number}
 use Rattle.wire.specs.Folding.{unfolded}
-use Rattle.wire.specs.declared.Number.{Number}
-use Rattle.wire.specs.declared.Number.TheVariants.{Value, Short, Malformed}
 use Rattle.replies.specs.Reply.{reply_opening}
 
 -- Numbers that were read one after the other, and the place after them
@@ -14,9 +12,8 @@ pub record Plain : Type 0 where
   pub after : ℕ
 
 abbrev pub by_plain : ℕ → (ℕ → Plain) → Number → Plain
-by_plain at further (Value n next) = record { numbers = n ∷ (further next).numbers; after = (further next).after }
-by_plain at further Short = record { numbers = []; after = at }
-by_plain at further Malformed = record { numbers = []; after = at }
+by_plain at further (Ok (n, next)) = record { numbers = n ∷ (further next).numbers; after = (further next).after }
+by_plain at further (Err e) = record { numbers = []; after = at }
 
 -- So many numbers from a place on; fewer, where one of them cannot be read
 unfoldable pub plain_at : ℕ → List ℕ → ℕ → Plain

@@ -12,7 +12,7 @@ use Rattle.model.proofs.Bounds.{width_small, width_positive}
 use Rattle.block.specs.declared.Layout.{Layout}
 use Rattle.block.specs.Reading.{own_count, header_size, vector_size, owned_size, count_at, layout_of, read_whole, got, into, most_numbers}
 use Rattle.block.specs.Contents.{vector_numbers, block_of}
-use Rattle.block.specs.declared.Read.TheVariants.{Ended}
+use Rattle.std.specs.Prelude.{Ok}
 use Rattle.block.proofs.Lent.{AllPlaced, vectors_fit, lent_room, lent_in_range, lent_placed}
 use Rattle.hypotheses.specs.Limits.{vector_at, SearchAsked}
 use Rattle.search.specs.Values.{Answered}
@@ -43,7 +43,7 @@ vector_asked o list r p k h =
 
 -- A list of which a record's reading, to its end, made another
 pub lent_holds : (bytes : List ℕ) (at : ℕ) (list list' : List ℤ) → length list ≡ most_numbers
-    → got (Ended at) list' ≡ into 0 (read_whole bytes) list → Holds (layout_of bytes) list'
+    → got (Ok at) list' ≡ into 0 (read_whole bytes) list → Holds (layout_of bytes) list'
 lent_holds bytes at list list' room e =
     let ranged = lent_in_range bytes at list list' room e in
     record {

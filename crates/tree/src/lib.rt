@@ -2,6 +2,10 @@
 // metric.
 #![tactic(auto)]
 
+ghost use Rattle.std.specs.Prelude.{◌≡◌, ◌<◌, ◌^◌, nat_abs, ◌+ℤ◌, ◌-ℤ◌, ◌*ℤ◌};
+
+use std::ops::{Mul, Sub};
+
 // What a search is asked: a vector's M, Q and C, and its allowance (document 01's term).
 #[derive(Clone, Copy)]
 pub struct Task {
@@ -41,6 +45,35 @@ pub struct Kept {
 pub struct Complex {
     pub re: i64,
     pub im: i64,
+}
+
+impl Mul for Complex {
+    type Output = Complex;
+
+    ghost can_mul = { λ a b. (nat_abs a.re < 2 ^ 31) × (nat_abs a.im < 2 ^ 31) × (nat_abs b.re < 2 ^ 31) × (nat_abs b.im < 2 ^ 31) };
+
+    ghost mul_gives = { λ a b r. (r.re ≡ a.re *ℤ b.re -ℤ a.im *ℤ b.im) × (r.im ≡ a.re *ℤ b.im +ℤ a.im *ℤ b.re) };
+
+    fn mul(self, other: Complex) -> Complex {
+        let re = self.re * other.re - self.im * other.im;
+        let im = self.re * other.im + self.im * other.re;
+        Complex { re, im }
+    }
+}
+
+impl Sub for Complex {
+    type Output = Complex;
+
+    ghost can_sub = { λ a b. (nat_abs a.re < 2 ^ 62) × (nat_abs a.im < 2 ^ 62) × (nat_abs b.re < 2 ^ 62) × (nat_abs b.im < 2 ^ 62) };
+
+    ghost sub_gives = { λ a b r. (r.re ≡ a.re -ℤ b.re) × (r.im ≡ a.im -ℤ b.im) };
+
+    fn sub(self, other: Complex) -> Complex {
+        Complex {
+            re: self.re - other.re,
+            im: self.im - other.im,
+        }
+    }
 }
 
 // Above every metric, which document 01 bounds by 2 to the 39: an infinite least metric.

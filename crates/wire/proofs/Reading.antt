@@ -13,10 +13,15 @@ use lib.Dec.{eqb, lit<}
 use lib.ListN.{length, get_or, drop, drop_of_length-le}
 use lib.Pow.{shl_exact}
 use lib.Seq.{drop-cons}
-use Rattle.wire.specs.declared.Number.{Number}
-use Rattle.wire.specs.declared.Number.TheVariants.{Value, Short, Malformed}
-use Rattle.wire.specs.Reading.{above_digits, last_group, groups, number_at, number_refusal}
+use Rattle.std.specs.Prelude.{Result, Ok, Err}
+use Rattle.wire.specs.declared.NumberError.{NumberError}
+use Rattle.wire.specs.declared.NumberError.TheVariants.{Short, Malformed}
+use Rattle.wire.specs.Reading.{Number, above_digits, last_group, groups, number_at, number_refusal}
 use Rattle.wire.proofs.Writing.{weight}
+
+-- The same pair was read
+pub ok_is : {A B E : Type 0} {a c : A} {b d : B} → ◌≡◌ {A = Result (A × B) E} (Ok (a, b)) (Ok (c, d)) → (a ≡ c) × (b ≡ d)
+ok_is {A} {B} {E} {a} {c} {b} {d} e = let p : ◌≡◌ {A = A × B} (a, b) (c, d) = cc in (ap (λ (x : A × B). x.0) p, ap (λ (x : A × B). x.1) p)
 
 module _ (g : ℕ) (first : Bool) (at b : ℕ) (l : List ℕ) where
   -- A group without the high bit is the last
@@ -30,7 +35,7 @@ module _ (g : ℕ) (first : Bool) (at b : ℕ) (l : List ℕ) where
   groups_more h = rw (le-ltb b 128 h)
 
 -- A last group is a number's unless it is 0 after another
-pub last_group-is : (first : Bool) (b next : ℕ) → (first ≡ false → 0 < b) → last_group first b next ≡ Value b next
+pub last_group-is : (first : Bool) (b next : ℕ) → (first ≡ false → 0 < b) → last_group first b next ≡ Ok (b, next)
 unfolding last_group
 last_group-is true b next h = refl
 last_group-is false b next h = let some = h refl in rw (ne_eqb b 0 (λ e. omega arith))
@@ -38,19 +43,17 @@ last_group-is false b next h = let some = h refl in rw (ne_eqb b 0 (λ e. omega 
 -- Nothing below a number
 above_none : (x : Number) → above_digits 0 0 x ≡ x
 unfolding above_digits
-above_none (Value w next) = ap (λ (n : ℕ). Value n next) (omega arith)
-above_none Short = refl
-above_none Malformed = refl
+above_none (Ok (w, next)) = ap (λ (n : ℕ). Ok (n, next)) (omega arith)
+above_none (Err e) = refl
 
 -- A group below a number, above k others
 above_above : (k v d : ℕ) (x : Number) → above_digits k v (above_digits 1 d x) ≡ above_digits (k + 1) (d * 2 ^ (7 * k) + v) x
 unfolding above_digits
-above_above k v d (Value w next) = ap (λ (n : ℕ). Value n next) (rw (add-one k, weight k) (sums (2 ^ (7 * k))))
+above_above k v d (Ok (w, next)) = ap (λ (n : ℕ). Ok (n, next)) (rw (add-one k, weight k) (sums (2 ^ (7 * k))))
   where
     sums : (p : ℕ) → (w * 128 + d) * p + v ≡ w * (p * 128) + (d * p + v)
     sums p = rw (add-mul (w * 128) d p, add_assoc (w * 128 * p) (d * p) v, mul_assoc w 128 p, mul_comm 128 p)
-above_above k v d Short = refl
-above_above k v d Malformed = refl
+above_above k v d (Err e) = refl
 
 -- The reader at a place, after k groups whose digits make v
 unfoldable pub state : List ℕ → ℕ → ℕ → ℕ → Number
@@ -62,7 +65,7 @@ state_start l at = sym (above_none _)
 
 module _ (l : List ℕ) (place k v : ℕ) where
   -- Four groups all had the high bit
-  pub state_malformed : 4 ≤ k → state l place k v ≡ Malformed
+  pub state_malformed : 4 ≤ k → state l place k v ≡ Err Malformed
   unfolding state groups above_digits
   state_malformed h = let e : 4 - k ≡ 0 = omega arith in rw e
 
@@ -71,7 +74,7 @@ module _ (l : List ℕ) (place k v : ℕ) where
     fuel = omega arith
 
     -- The bytes end
-    pub state_short : length l ≤ place → state l place k v ≡ Short
+    pub state_short : length l ≤ place → state l place k v ≡ Err Short
     unfolding state groups above_digits
     state_short s = rw (fuel, drop_of_length-le l {i = place} s)
 
@@ -89,7 +92,7 @@ module _ (l : List ℕ) (place k v : ℕ) where
           state_here ∙ rw (groups_more _ _ place _ (drop (place + 1) l) b, later) (above_above k v _ _)
 
       -- It is the last, 0 after another
-      pub state_zero : get_or l place 0 ≡ 0 → 0 < k → state l place k v ≡ Malformed
+      pub state_zero : get_or l place 0 ≡ 0 → 0 < k → state l place k v ≡ Err Malformed
       unfolding above_digits last_group
       state_zero b p =
           let later : eqb k 0 ≡ false = ne_eqb k 0 (λ e. omega arith) in
@@ -98,7 +101,7 @@ module _ (l : List ℕ) (place k v : ℕ) where
 
       -- It is the last, and a number's
       pub state_value : get_or l place 0 < 128 → (eqb k 0 ≡ false → 0 < get_or l place 0)
-          → state l place k v ≡ Value (get_or l place 0 % 128 * 2 ^ (7 * k) + v) (place + 1)
+          → state l place k v ≡ Ok (get_or l place 0 % 128 * 2 ^ (7 * k) + v, place + 1)
       unfolding above_digits
       state_value b some =
           let all : get_or l place 0 % 128 ≡ get_or l place 0 = omega arith in
@@ -106,7 +109,7 @@ module _ (l : List ℕ) (place k v : ℕ) where
           ∙ rw (groups_last _ (eqb k 0) place _ (drop (place + 1) l) b, last_group-is (eqb k 0) (get_or l place 0) (place + 1) some, all)
 
 -- A first group without the high bit is the whole number, 0 too
-pub number_of_one : (l : List ℕ) (at : ℕ) → at < length l → get_or l at 0 < 128 → number_at l at ≡ Value (get_or l at 0) (at + 1)
+pub number_of_one : (l : List ℕ) (at : ℕ) → at < length l → get_or l at 0 < 128 → number_at l at ≡ Ok (get_or l at 0, at + 1)
 unfolding number_at last_group
 number_of_one l at here one = rw (drop-cons l at 0) (groups_last _ true at _ (drop (suc at) l) one)
 
@@ -120,12 +123,12 @@ digits_below b v k l =
     let most : b % 128 ≤ 127 = omega arith in rw (add-one k, weight k) (omega (arith, mul-le-mul_right (2 ^ (7 * k)) most))
 
 -- The document's number tells which of the two it is that cannot be read
-pub is_short : (x : Number) → number_refusal x ≡ 2 → x ≡ Short
-is_short (Value v next) e = absurd (omega arith)
-is_short Short e = refl
-is_short Malformed e = absurd (omega arith)
+pub is_short : (x : Number) → number_refusal x ≡ 2 → x ≡ Err Short
+is_short (Ok (v, next)) e = absurd (omega arith)
+is_short (Err Short) e = refl
+is_short (Err Malformed) e = absurd (omega arith)
 
-pub is_malformed : (x : Number) → number_refusal x ≡ 3 → x ≡ Malformed
-is_malformed (Value v next) e = absurd (omega arith)
-is_malformed Short e = absurd (omega arith)
-is_malformed Malformed e = refl
+pub is_malformed : (x : Number) → number_refusal x ≡ 3 → x ≡ Err Malformed
+is_malformed (Ok (v, next)) e = absurd (omega arith)
+is_malformed (Err Short) e = absurd (omega arith)
+is_malformed (Err Malformed) e = refl

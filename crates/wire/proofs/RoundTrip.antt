@@ -11,13 +11,12 @@ use lib.IntN.{ℤ, pos, negsuc, nat_abs}
 use lib.ListN.{length, take, drop, length-drop, take-append-drop}
 use lib.Pow.{pow_pos}
 use lib.Seq.{drop-append_seam, drop-drop, get_or-drop}
-use Rattle.wire.specs.declared.Number.{Number}
-use Rattle.wire.specs.declared.Number.TheVariants.{Value, Short, Malformed}
-use Rattle.wire.specs.Reading.{above_digits, last_group, groups, number_at, Sound, Bytes}
+use Rattle.std.specs.Prelude.{Ok, Err}
+use Rattle.wire.specs.Reading.{Number, above_digits, last_group, groups, number_at, Sound, Bytes}
 use Rattle.wire.specs.Writing.{groups_of, bytes_of}
 use Rattle.wire.specs.Folding.{folded, unfolded}
 use Rattle.wire.proofs.Writing.{weight, groups_of-last, groups_of-more, left_below, left_room, groups_of-some}
-use Rattle.wire.proofs.Reading.{groups_last, groups_more, last_group-is}
+use Rattle.wire.proofs.Reading.{groups_last, groups_more, last_group-is, ok_is}
 
 -- A number folded and unfolded
 pub unfolded_folded : (z : ℤ) → unfolded (folded z) ≡ z
@@ -45,7 +44,7 @@ unfolded_below n b h = go (unfolded n) h (folded_unfolded n)
 
 -- Reading what was written, at most g groups of it
 read_groups : (g : ℕ) (first : Bool) (at n : ℕ) (after : List ℕ) (t : Bool) → ltb n 128 ≡ t → 0 < g → n < 2 ^ (7 * g)
-    → (first ≡ false → 0 < n) → groups g first at (groups_of g n ++ after) ≡ Value n (at + length (groups_of g n))
+    → (first ≡ false → 0 < n) → groups g first at (groups_of g n ++ after) ≡ Ok (n, at + length (groups_of g n))
 unfolding above_digits
 read_groups zero first at n after t e p b h = absurd (omega arith)
 read_groups (suc g) first at n after true e p b h =
@@ -57,18 +56,18 @@ read_groups (suc g) first at n after false e p b h =
     read_groups g false (at + 1) (n / 128) after (ltb (n / 128) 128) refl (left_room g n b large) (left_below g n b) (λ e. omega arith) in
     rw (groups_of-more g n large)
     (groups_more g first at (n % 128 + 128) (groups_of g (n / 128) ++ after) (omega arith)
-    ∙ ap (above_digits 1 ((n % 128 + 128) % 128)) rest ∙ ap₂ Value (omega arith) (omega arith))
+    ∙ ap (above_digits 1 ((n % 128 + 128) % 128)) rest ∙ ap₂ (λ (v p : ℕ). Ok (v, p)) (omega arith) (omega arith))
 
 -- Reading where a written number begins gives the number, and the place after it
 pub read_at : (l : List ℕ) (at : ℕ) (after : List ℕ) (n : ℕ) → n < 2 ^ 28 → drop at l ≡ bytes_of n ++ after
-    → number_at l at ≡ Value n (at + length (bytes_of n))
+    → number_at l at ≡ Ok (n, at + length (bytes_of n))
 unfolding number_at bytes_of
 read_at l at after n b e =
     ap (groups 4 true at) e ∙ read_groups 4 true at n after (ltb n 128) refl (omega arith) b (λ f. absurd (true≢false f))
 
 -- Reading what was written gives the number, and the rest
 pub read_written : (before after : List ℕ) (n : ℕ) → n < 2 ^ 28
-    → number_at (before ++ (bytes_of n ++ after)) (length before) ≡ Value n (length before + length (bytes_of n))
+    → number_at (before ++ (bytes_of n ++ after)) (length before) ≡ Ok (n, length before + length (bytes_of n))
 read_written before after n b =
     read_at (before ++ (bytes_of n ++ after)) (length before) after n b (drop-append_seam before (bytes_of n ++ after))
 
@@ -80,22 +79,16 @@ record Back (g : ℕ) (first : Bool) (at : ℕ) (l : List ℕ) (n next : ℕ) : 
   within : length (groups_of g n) ≤ length l
   same : Bytes l → take (length (groups_of g n)) l ≡ groups_of g n
 
-short_no : {n next : ℕ} → Short ≡ Value n next → ⊥
-short_no e = let z : ◌≡◌ {A = ℕ} 0 1 = cc in omega arith
-
-malformed_no : {n next : ℕ} → Malformed ≡ Value n next → ⊥
-malformed_no e = let z : ◌≡◌ {A = ℕ} 0 1 = cc in omega arith
-
 -- What a last group says
-last_says : (first : Bool) (b at n next : ℕ) → last_group first b at ≡ Value n next → (b ≡ n) × (at ≡ next) × (first ≡ false → 0 < b)
+last_says : (first : Bool) (b at n next : ℕ) → last_group first b at ≡ Ok (n, next) → (b ≡ n) × (at ≡ next) × (first ≡ false → 0 < b)
 unfolding last_group
-last_says true b at n next e = (cc, cc, λ f. absurd (true≢false f))
-last_says false zero at n next e = absurd (malformed_no e)
+last_says true b at n next e = let p = ok_is e in (p.0, p.1, λ f. absurd (true≢false f))
+last_says false zero at n next e = cc
 last_says false (suc b) at n next e =
-    let v : Value (suc b) at ≡ Value n next = sym (last_group-is false (suc b) at (λ f. omega arith)) ∙ e in (cc, cc, λ f. omega arith)
+    let p = ok_is (sym (last_group-is false (suc b) at (λ f. omega arith)) ∙ e) in (p.0, p.1, λ f. omega arith)
 
 module _ (g : ℕ) (first : Bool) (at b : ℕ) (l : List ℕ) (n next : ℕ) where
-  back_last : b < 128 → last_group first b (at + 1) ≡ Value n next → Back (suc g) first at (b ∷ l) n next
+  back_last : b < 128 → last_group first b (at + 1) ≡ Ok (n, next) → Back (suc g) first at (b ∷ l) n next
   back_last h e =
       let says = last_says first b (at + 1) n next e in
       rw (← says.0, ← says.1)
@@ -108,13 +101,14 @@ module _ (g : ℕ) (first : Bool) (at b : ℕ) (l : List ℕ) (n next : ℕ) whe
       })
 
   -- A group that others follow, of which as much is known
-  back_more : 128 ≤ b → (x : Number) → ((v p : ℕ) → x ≡ Value v p → Back g false (at + 1) l v p) → above_digits 1 (b % 128) x ≡ Value n next
+  back_more : 128 ≤ b → (x : Number) → ((v p : ℕ) → x ≡ Ok (v, p) → Back g false (at + 1) l v p) → above_digits 1 (b % 128) x ≡ Ok (n, next)
       → Back (suc g) first at (b ∷ l) n next
   unfolding above_digits
-  back_more h (Value v p) rest e =
+  back_more h (Ok (v, p)) rest e =
       let r = rest v p refl in
-      let value : v * 128 + b % 128 ≡ n = cc in
-      let place : p ≡ next = cc in
+      let says = ok_is e in
+      let value : v * 128 + b % 128 ≡ n = says.0 in
+      let place : p ≡ next = says.1 in
       let some : 0 < v = r.some refl in
       let left : n / 128 ≡ v = omega arith in
       let low : n % 128 ≡ b % 128 = omega arith in
@@ -126,17 +120,16 @@ module _ (g : ℕ) (first : Bool) (at b : ℕ) (l : List ℕ) (n next : ℕ) whe
         within = rw bytes (omega (arith, r.within));
         same = λ k. rw bytes (ap₂ ◌∷◌ (omega (arith, k 0)) (r.same (λ i. k (suc i))));
       }
-  back_more h Short rest e = absurd (short_no e)
-  back_more h Malformed rest e = absurd (malformed_no e)
+  back_more h (Err x) rest e = cc
 
-back : (g : ℕ) (first : Bool) (at : ℕ) (l : List ℕ) (n next : ℕ) → groups g first at l ≡ Value n next → Back g first at l n next
+back : (g : ℕ) (first : Bool) (at : ℕ) (l : List ℕ) (n next : ℕ) → groups g first at l ≡ Ok (n, next) → Back g first at l n next
 unfolding groups
-back zero first at l n next e = absurd (malformed_no e)
-back (suc g) first at [] n next e = absurd (short_no e)
+back zero first at l n next e = cc
+back (suc g) first at [] n next e = cc
 back (suc g) first at (b ∷ l) n next e = go (ltb b 128) refl e (back g false (at + 1) l)
   where
-    go : (t : Bool) → ltb b 128 ≡ t → cond t (last_group first b (at + 1)) (above_digits 1 (b % 128) (groups g false (at + 1) l)) ≡ Value n next
-        → ((v p : ℕ) → groups g false (at + 1) l ≡ Value v p → Back g false (at + 1) l v p) → Back (suc g) first at (b ∷ l) n next
+    go : (t : Bool) → ltb b 128 ≡ t → cond t (last_group first b (at + 1)) (above_digits 1 (b % 128) (groups g false (at + 1) l)) ≡ Ok (n, next)
+        → ((v p : ℕ) → groups g false (at + 1) l ≡ Ok (v, p) → Back g false (at + 1) l v p) → Back (suc g) first at (b ∷ l) n next
     go true t e rest = back_last g first at b l n next (ltb-true b 128 t) e
     go false t e rest = back_more g first at b l n next (ltb-false b 128 t) _ rest e
 
@@ -144,7 +137,7 @@ bytes_drop : (l : List ℕ) (at : ℕ) → Bytes l → Bytes (drop at l)
 bytes_drop l at h i = rw (get_or-drop at l i 0) (h (at + i))
 
 module _ (l : List ℕ) (at : ℕ) where
-  found : (n next : ℕ) → number_at l at ≡ Value n next → Back 4 true at (drop at l) n next
+  found : (n next : ℕ) → number_at l at ≡ Ok (n, next) → Back 4 true at (drop at l) n next
   unfolding number_at
   found n next e = back 4 true at (drop at l) n next e
 
@@ -156,27 +149,26 @@ module _ (l : List ℕ) (at : ℕ) where
   read_sound = go (number_at l at) refl
     where
       go : (x : Number) → number_at l at ≡ x → Sound x (length l)
-      go (Value n next) e = let r = found n next e in (r.small, inside n next r)
-      go Short e = tt
-      go Malformed e = tt
+      go (Ok (n, next)) e = let r = found n next e in (r.small, inside n next r)
+      go (Err x) e = tt
 
   -- So an answer that is the definition's has its bounds
   pub answered : (r : Number) → r ≡ number_at l at → (r ≡ number_at l at) × Sound r (length l)
   answered r e = (e, rw e read_sound)
 
   -- Whatever is read as n has as many bytes as writing n makes
-  pub read_ends : (n next : ℕ) → number_at l at ≡ Value n next → next ≡ at + length (bytes_of n)
+  pub read_ends : (n next : ℕ) → number_at l at ≡ Ok (n, next) → next ≡ at + length (bytes_of n)
   unfolding bytes_of
   read_ends n next e = (found n next e).ends
 
   -- Whatever is read as n is the bytes that writing n makes
-  pub read_is_written : (n next : ℕ) → Bytes l → number_at l at ≡ Value n next
+  pub read_is_written : (n next : ℕ) → Bytes l → number_at l at ≡ Ok (n, next)
       → (n < 2 ^ 28) × (next ≡ at + length (bytes_of n)) × (next ≤ length l) × (take (length (bytes_of n)) (drop at l) ≡ bytes_of n)
   unfolding bytes_of
   read_is_written n next h e = let r = found n next e in (r.small, r.ends, inside n next r, r.same (bytes_drop l at h))
 
   -- So the bytes at the place are those of n, and then what follows
-  pub read_splits : (n next : ℕ) → Bytes l → number_at l at ≡ Value n next → drop at l ≡ bytes_of n ++ drop next l
+  pub read_splits : (n next : ℕ) → Bytes l → number_at l at ≡ Ok (n, next) → drop at l ≡ bytes_of n ++ drop next l
   read_splits n next h e =
       let r = read_is_written n next h e in
       sym (take-append-drop (length (bytes_of n)) (drop at l))

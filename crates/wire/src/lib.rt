@@ -7,50 +7,47 @@ ghost use Rattle.wire.specs.Reading.{number_at, Sound};
 ghost use Rattle.wire.specs.Writing.{bytes_of, put};
 ghost use Rattle.wire.specs.Folding.{folded, unfolded};
 
-// What is found at a place: a number with the place after it, bytes that end too early, or groups that are no number's.
-#[derive(Clone, Copy)]
-pub enum Number {
-    Value(u32, usize),
+// Why no number is found at a place: the bytes end too early, or the groups are no number's.
+#[derive(Clone, Copy, Debug, PartialEq, Eq)]
+pub enum NumberError {
     Short,
     Malformed,
 }
 
-// The number at a place. Where the first byte has no high bit it is the whole number, and nothing is put together.
-pub fn read_number(bytes: &[u8], at: usize) -> Number
+// The number at a place, and the place after it. Where the first byte has no high bit it is the whole number, and nothing is put together.
+pub fn read_number(bytes: &[u8], at: usize) -> Result<(u32, usize), NumberError>
     ensures { (result ≡ number_at bytes.now at) × Sound result (length bytes.now) }
 {
     if at < bytes.len() {
         let first = bytes[at];
         if first < 128 {
-            return Number::Value(first as u32, at + 1);
+            return Ok((first as u32, at + 1));
         }
     }
     read_groups(bytes, at)
 }
 
 // The same by shift and mask, group by group. After k groups the value is below 2 to the 7k, so the next seven bits are free.
-fn read_groups(bytes: &[u8], at: usize) -> Number
+fn read_groups(bytes: &[u8], at: usize) -> Result<(u32, usize), NumberError>
     ensures { (result ≡ number_at bytes.now at) × Sound result (length bytes.now) }
 {
     let mut value: u32 = 0;
     let mut place = at;
-    let mut k: u32 = 0;
-    while k < 4 {
+    for k in 0..4u32 {
         if bytes.len() <= place {
-            return Number::Short;
+            return Err(NumberError::Short);
         }
         let b = bytes[place];
-        value = value | ((b & 127) as u32) << (7 * k);
+        value |= ((b & 127) as u32) << (7 * k);
         place += 1;
         if b < 128 {
             if b == 0 && 0 < k {
-                return Number::Malformed;
+                return Err(NumberError::Malformed);
             }
-            return Number::Value(value, place);
+            return Ok((value, place));
         }
-        k += 1;
     }
-    Number::Malformed
+    Err(NumberError::Malformed)
 }
 
 // Puts n's groups into the buffer from a place on, the low seven bits of what is left first, and gives the place after them.

@@ -18,21 +18,21 @@ use Rattle.detector.proofs.geckoneedle_detect.Goals as goal
 holds : (c : lts.Past-After-enum_told tie.the-claims reads.Pre reads.Post) → Holds (layout_of c.args.«record».now) c.read_whole.new.numbers
 holds c =
     lent_holds _ _ (replicate most_numbers (pos 0)) _ (length-replicate most_numbers (pos 0))
-    (rw c.in-Ended.is at c.read_whole.ensures)
+    (rw c.in-Ok.is at c.read_whole.ensures)
 
-pub returns-in-Ended : goal.returns-in-Ended
-returns-in-Ended c =
+pub returns-in-Ok : goal.returns-in-Ok
+returns-in-Ok c =
     let done = rw c.layout_of.ensures at c.reply_to.ensures in
     let f : SFits w64 c.reply_to.result = sfits_of c.reply_to.type_inv in
     rw
     (when_ended _ _ (replicate most_numbers (pos 0)) _ _ (length-replicate most_numbers (pos 0))
-    (rw c.in-Ended.is at c.read_whole.ensures))
+    (rw c.in-Ok.is at c.read_whole.ensures))
     (to_z-of_z f ∙ done.0, done.1)
 
-pub returns-in-Refused : goal.returns-in-Refused
-returns-in-Refused c =
+pub returns-in-Err : goal.returns-in-Err
+returns-in-Err c =
     let f : SFits w64 c.refused.result = sfits_of c.refused.type_inv in
-    rw (when_refused _ _ (replicate most_numbers (pos 0)) _ _ (rw c.in-Refused.is at c.read_whole.ensures))
+    rw (when_refused _ _ (replicate most_numbers (pos 0)) _ _ (rw c.in-Err.is at c.read_whole.ensures))
     (to_z-of_z f ∙ c.refused.ensures, refl)
 
 pub reply_to-requires : goal.reply_to-requires

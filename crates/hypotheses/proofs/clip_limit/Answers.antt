@@ -23,9 +23,9 @@ returns-then-bit c =
     let g = difference c.args.far c.args.prior c.requires.0 c.requires.1 in
     simp (to_z_pos, to_z-of_z, c.if-bit.true)
 
-pub returns : goal.returns
+pub returns-else-bit : goal.returns-else-bit
 unfolding reach_of
-returns c =
+returns-else-bit c =
     let f = c.ranges.prior in let h : c.args.far < 2 ^ 63 = omega arith in
     let g = total c.args.far c.args.prior c.requires.0 c.requires.1 in
     simp (to_z_pos, to_z-of_z, c.if-bit.false)

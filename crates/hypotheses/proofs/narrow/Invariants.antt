@@ -6,7 +6,7 @@ use Rattle.hypotheses.proofs.narrow.Given as goal
 
 abbrev pub invariant-loop-rest : goal.invariant-loop-rest
 invariant-loop-rest l =
-    (l.i ≤ l.n) × (l.rest ≡ l.opposed / 2 ^ (l.n - l.i)) × NarrowedFrom l.n l.label l.opposed l.d l.i l.initial.minima l.minima
+    (l.i ≤ l.n) × (l.rest ≡ l.opposed / 2 ^ (l.n - l.i)) × NarrowedFrom l.n l.leaf.bits l.opposed l.leaf.partial l.i l.initial.minima l.minima
 
 abbrev pub decreases-loop-rest : goal.decreases-loop-rest
 decreases-loop-rest l = l.i

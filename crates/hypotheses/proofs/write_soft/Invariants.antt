@@ -1,5 +1,4 @@
 -- After i turns the first i soft values are written.
-use Prim.Native.Nat.{◌≤◌, ◌-◌}
 use mathlib.Core.Path.{◌≡◌}
 use Rattle.metric.specs.Parts.{filled}
 use Rattle.search_spec.specs.Program.{taken_in, value_of}
@@ -8,8 +7,4 @@ use Rattle.hypotheses.proofs.write_soft.Given as goal
 
 abbrev pub invariant-loop-i : goal.invariant-loop-i
 invariant-loop-i l =
-    (l.i ≤ l.n) × (l.soft
-    ≡ filled (value_of (vector_for l.task l.numbers) l.empty (taken_in 0 0 l.minima)) l.i l.initial.soft)
-
-abbrev pub decreases-loop-i : goal.decreases-loop-i
-decreases-loop-i l = l.n - l.i
+    l.soft ≡ filled (value_of (vector_for l.task l.numbers) l.empty (taken_in 0 0 l.minima)) l.i l.initial.soft

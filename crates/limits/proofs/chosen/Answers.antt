@@ -9,11 +9,13 @@ use Rattle.search_spec.proofs.Reach.{widest_more}
 use Rattle.limits.specs.Reach.{stream_reach, symbol_of, chosen_reach}
 use Rattle.limits.proofs.chosen.Goals as goal
 
-pub loop-j-init : goal.loop-j-init
+-- No stream yet
+none_wide : (limit : ℕ → ℕ) (level n : ℕ) → n ≡ 0 → 0 ≡ widest_of (λ _. true) limit level n
 unfolding widest_of
-loop-j-init c =
-    let e : c.args.level - c.args.level ≡ 0 = omega arith in
-    (omega arith, c.requires.2, rw e)
+none_wide limit level n e = rw e
+
+pub loop-j-init : goal.loop-j-init
+loop-j-init c = none_wide _ c.args.level _ (omega arith)
 
 -- One stream more
 next_wider : (limit : ℕ → ℕ) (level j : ℕ) → level ≤ j
@@ -31,15 +33,11 @@ loop-j-preserved c =
     let e : c.symbol_at-symbol.result ≡ symbol c.loop-j.j =
     c.symbol_at-symbol.ensures ∙ ap (λ (n : ℕ). s.bits / 2 ^ ((s.m - n) * s.q) % 2 ^ s.q) (add-one c.loop-j.j) in
     let r : c.stream_reach.result ≡ reach c.loop-j.j (symbol c.loop-j.j) =
-    c.stream_reach.ensures ∙ ap (reach c.loop-j.j) e in (
-      omega arith,
-      omega arith,
-      c.larger-widest.ensures ∙ ap₂ max c.loop-j.invariant.2 r
-          ∙ next_wider (λ j. reach j (symbol j)) s.level c.loop-j.j c.loop-j.invariant.0,
-    )
+    c.stream_reach.ensures ∙ ap (reach c.loop-j.j) e in
+    c.max-widest.ensures ∙ ap₂ max c.loop-j.invariant r ∙ next_wider (λ j. reach j (symbol j)) s.level c.loop-j.j (omega arith)
 
 pub returns : goal.returns
 unfolding chosen_reach
 returns c =
     let e : c.loop-j.j ≡ c.args.m = omega arith in
-    rw e at c.loop-j.invariant.2
+    rw e at c.loop-j.invariant

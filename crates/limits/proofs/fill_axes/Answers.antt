@@ -1,30 +1,26 @@
 -- The entries stand already, or the two axes are filled, one after the other.
+use Prim.Native.Nat.{◌+◌, ◌-◌, ◌*◌, ◌/◌}
+use mathlib.Core.Path.{◌≡◌, refl}
 use native.Mathlib.Omega.{arith}
-use lib.Pow.{pow_mono}
-use Rattle.axes.specs.Tables.Axis.{real, imaginary}
-use Rattle.axes.proofs.Tables.{axis_few}
-use Rattle.limits.proofs.Streams.{axes_stand, axes_are}
+use Rattle.limits.proofs.Streams.{axes_stand, real_lent, imaginary_lent, axes_are}
 use Rattle.limits.proofs.fill_axes.Goals as goal
 
 pub returns-then-changed-eq0 : goal.returns-then-changed-eq0
 returns-then-changed-eq0 c =
-    axes_stand c.args.q c.args.j c.args.limits.now c.requires.0 c.requires.2 c.requires.1 c.requires.3 (c.requires.4 c.if-changed-eq0.true)
-
-pub fill_axis_limits-requires : goal.fill_axis_limits-requires
-fill_axis_limits-requires c =
-    let h = axis_few c.args.q real c.requires.0 in
-    (h, omega (arith, c.requires.2), omega arith, omega (arith, c.requires.1, c.requires.3, pow_mono h))
-
-pub fill_axis_limits-requires-2 : goal.fill_axis_limits-requires-2
-fill_axis_limits-requires-2 c =
-    let h = axis_few c.args.q imaginary c.requires.0 in (
-      h,
-      omega (arith, c.requires.2),
-      omega arith,
-      omega (arith, c.requires.1, c.requires.3, c.fill_axis_limits.ensures.size, pow_mono h),
-    )
+    let asked = c.requires in
+    axes_stand c.args.q c.args.j c.args.limits.now asked.bits asked.label asked.inside asked.size (asked.stands c.if-changed-eq0.true)
 
 pub returns : goal.returns
 returns c =
-    axes_are c.args.q c.args.j c.args.limits.now c.requires.0 c.requires.2 c.requires.1 c.requires.3 _ _ c.fill_axis_limits.ensures
-    c.fill_axis_limits-2.ensures
+    let q = c.args.q in
+    let j = c.args.j in
+    let old = c.args.limits.now in
+    let asked = c.requires in
+    let lent = c.split_at_mut-own.ensures in
+    let halves = c.split_at.ensures in
+    let n : (j + 1) * q - j * q ≡ q = omega arith in
+    let re = real_lent q j old asked.bits asked.label asked.inside asked.size _ _ (q - q / 2) lent.front n refl in
+    let im = imaginary_lent q j old asked.bits asked.label asked.inside asked.size _ _ (q - q / 2) lent.front n refl in
+    axes_are q j old asked.bits asked.label asked.inside asked.size _ _ c.fill_axis_limits.new.entries c.fill_axis_limits-2.new.entries _ _
+    lent.front lent.back (omega arith) (omega arith) re im
+    (rw halves.front at c.fill_axis_limits.ensures) (rw halves.back at c.fill_axis_limits-2.ensures)

@@ -12,27 +12,27 @@ empty = replicate most_numbers (pos 0)
 
 pub write_block-requires : goal.write_block-requires
 write_block-requires c =
-    let held = lent_holds _ _ empty _ (length-replicate most_numbers (pos 0)) c.in-Ended.ensures in
+    let held = lent_holds _ _ empty _ (length-replicate most_numbers (pos 0)) c.in-Ok.ensures in
     rw c.layout_of.ensures (record { held = held; buffer = omega (arith, c.told-text) })
 
-pub returns-in-Ended-clause-value : goal.returns-in-Ended-clause-value
-returns-in-Ended-clause-value c =
+pub returns-in-Ok-clause-value : goal.returns-in-Ok-clause-value
+returns-in-Ok-clause-value c =
     let wrote = rw c.layout_of.ensures at c.write_block.ensures in
-    let block = listed_block c.args.record.now empty c.read_whole.new.numbers _ (length-replicate most_numbers (pos 0)) c.in-Ended.ensures in
+    let block = listed_block c.args.record.now empty c.read_whole.new.numbers _ (length-replicate most_numbers (pos 0)) c.in-Ok.ensures in
     (whole block (omega (arith, wrote.0, c.told-text)) wrote.1).0
 
-pub returns-in-Ended-clause-text_after : goal.returns-in-Ended-clause-text_after
-returns-in-Ended-clause-text_after c =
+pub returns-in-Ok-clause-text_after : goal.returns-in-Ok-clause-text_after
+returns-in-Ok-clause-text_after c =
     let wrote = rw c.layout_of.ensures at c.write_block.ensures in
-    let block = listed_block c.args.record.now empty c.read_whole.new.numbers _ (length-replicate most_numbers (pos 0)) c.in-Ended.ensures in
+    let block = listed_block c.args.record.now empty c.read_whole.new.numbers _ (length-replicate most_numbers (pos 0)) c.in-Ok.ensures in
     (whole block (omega (arith, wrote.0, c.told-text)) wrote.1).1.0
 
-pub returns-in-Refused-clause-value : goal.returns-in-Refused-clause-value
-returns-in-Refused-clause-value c =
-    let refused = listed_refused c.args.record.now empty _ _ c.in-Refused.ensures c.refusal_number.ensures in
+pub returns-in-Err-clause-value : goal.returns-in-Err-clause-value
+returns-in-Err-clause-value c =
+    let refused = listed_refused c.args.record.now empty _ _ c.in-Err.ensures c.refusal_number.ensures in
     (whole refused (omega (arith, c.write_last.ensures.0, c.told-text)) c.write_last.ensures.1).0
 
-pub returns-in-Refused-clause-text_after : goal.returns-in-Refused-clause-text_after
-returns-in-Refused-clause-text_after c =
-    let refused = listed_refused c.args.record.now empty _ _ c.in-Refused.ensures c.refusal_number.ensures in
+pub returns-in-Err-clause-text_after : goal.returns-in-Err-clause-text_after
+returns-in-Err-clause-text_after c =
+    let refused = listed_refused c.args.record.now empty _ _ c.in-Err.ensures c.refusal_number.ensures in
     (whole refused (omega (arith, c.write_last.ensures.0, c.told-text)) c.write_last.ensures.1).1.0

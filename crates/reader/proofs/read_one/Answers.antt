@@ -1,12 +1,9 @@
--- Each arm is one case of what was read; a number below the bound is taken, any other is ranged.
+-- A number below the bound is taken, any other is ranged; where none can be read, it is refused as the definition says.
 use mathlib.Core.Path.{sym, ap, ◌∙◌}
+use Rattle.std.proofs.lemmas.Result.{err_from_is_err_and}
 use Rattle.block.specs.Reading.{by_number}
 use Rattle.reader.proofs.read_one.Goals as goal
 
-pub returns-in-Short : goal.returns-in-Short
-returns-in-Short c =
-    unfold by_number in sym (ap (by_number _) (sym c.read_number.ensures.0 ∙ c.in-Short.is))
-
-pub returns-in-Malformed : goal.returns-in-Malformed
-returns-in-Malformed c =
-    unfold by_number in sym (ap (by_number _) (sym c.read_number.ensures.0 ∙ c.in-Malformed.is))
+pub returns-in_err-n : goal.returns-in_err-n
+unfolding by_number
+returns-in_err-n c = let p = err_from_is_err_and c.from_residual.result c.from_residual.ensures.1 in rw (p.1, p.2) (sym (ap (by_number _) (sym c.read_number.ensures.0 ∙ c.in_err-n.was)))

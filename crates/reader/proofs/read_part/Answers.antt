@@ -3,46 +3,41 @@ use mathlib.Core.Path.{◌≡◌, sym, ◌∙◌}
 use Prim.Native.Nat.{◌≤◌, ◌<◌, ◌+◌}
 use native.Mathlib.Omega.{arith}
 use lib.ListN.{length, drop}
+use Rattle.std.proofs.lemmas.Result.{err_from_is_err_and}
 use Rattle.block.specs.Reading.{kinds_of, runs_of}
 use Rattle.block.proofs.Runs.{run_room, part_ended, part_refused, part_none}
-use Rattle.reader.proofs.read_part.Lts as lts
-use Rattle.reader.proofs.read_part.Reads as reads
-use Rattle.reader.proofs.read_part.Tie as tie
 use Rattle.reader.proofs.read_part.Goals as goal
 
-there : (c : lts.In-loop tie.the-claims reads.Pre reads.Post goal.the-invariant-loop-i goal.the-decreases-loop-i) → c.loop-i.i < length (runs_of c.args.part)
-there c = omega arith
-
-room : (c : lts.After-run_at tie.the-claims reads.Pre reads.Post goal.the-invariant-loop-i goal.the-decreases-loop-i)
-    → length (kinds_of (drop c.loop-i.i (runs_of c.args.part)))
-    ≡ c.run_at-run.result.count + length (kinds_of (drop (c.loop-i.i + 1) (runs_of c.args.part)))
-room c = run_room _ _ (there c.before) c.run_at-run.result c.run_at-run.ensures
-
-pub returns-in-Refused : goal.returns-in-Refused
-returns-in-Refused c =
-    let at = c.before.before in
-    sym (c.loop-i.invariant.3
-    ∙ part_refused _ _ (there c.before.before.before.before.before) at.run_at-run.result at.run_at-run.ensures _ _ _ _ _ _ (rw c.in-Refused.is at c.read_run.ensures))
+pub returns-in_err-place : goal.returns-in_err-place
+returns-in_err-place c =
+    let there : c.loop-i.i < length (runs_of c.args.part) = omega arith in
+    let p = err_from_is_err_and c.from_residual.result c.from_residual.ensures.1 in
+    rw (p.1, p.2)
+    (sym (c.loop-i.invariant.is
+    ∙ part_refused _ _ there c.run_at-run.result c.run_at-run.ensures _ _ _ _ _ _ (rw c.in_err-place.was at c.read_run.ensures)))
 
 pub loop-i-preserved : goal.loop-i-preserved
 loop-i-preserved c =
-    let at = c.before.before in (
-      c.loop-i.invariant.0,
-      omega arith,
-      omega (arith, room c.before.before.before.before),
-      c.loop-i.invariant.3
-          ∙ part_ended _ _ (there c.before.before.before.before.before) at.run_at-run.result at.run_at-run.ensures _ _ _ _ _ _ (rw c.in-Ended.is at c.read_run.ensures),
-    )
+    let there : c.loop-i.i < length (runs_of c.args.part) = omega arith in
+    record {
+      runs = c.loop-i.invariant.runs;
+      room = omega (arith, run_room _ _ there c.run_at-run.result c.run_at-run.ensures);
+      is =
+          c.loop-i.invariant.is
+          ∙ part_ended _ _ there c.run_at-run.result c.run_at-run.ensures _ _ _ _ _ _ (rw c.in_ok-place.was at c.read_run.ensures);
+    }
 
 pub read_run-requires : goal.read_run-requires
 read_run-requires c =
-    omega (arith, room c.before.before)
+    let there : c.loop-i.i < length (runs_of c.args.part) = omega arith in
+    omega (arith, run_room _ _ there c.run_at-run.result c.run_at-run.ensures)
 
 pub overflow_add-to : goal.overflow_add-to
 overflow_add-to c =
-    omega (arith, room c.before.before.before.before)
+    let there : c.loop-i.i < length (runs_of c.args.part) = omega arith in
+    omega (arith, run_room _ _ there c.run_at-run.result c.run_at-run.ensures)
 
 pub returns : goal.returns
 returns c =
     let past : length (runs_of c.args.part) ≤ c.loop-i.i = omega arith in
-    sym (c.loop-i.invariant.3 ∙ part_none _ _ _ _ _ _ past)
+    sym (c.loop-i.invariant.is ∙ part_none _ _ _ _ _ _ past)

@@ -1,41 +1,43 @@
--- The invariant: all n vectors into the list as it was are those from the k-th on into the list as it is.
+-- The invariant: all N vectors into the list as it was are those from the k-th on into the list as it is.
 use mathlib.Core.Path.{◌≡◌, sym, ◌∙◌}
 use Prim.Native.Nat.{◌-◌, ◌+◌, ◌*◌}
 use native.Mathlib.Omega.{arith}
-use Rattle.block.specs.Reading.{owned_size}
-use Rattle.block.proofs.Runs.{owned_numbers}
-use Rattle.block.proofs.Parts.{rest_none, rest_room, rest_ended, rest_refused}
-use Rattle.reader.proofs.read_vectors.Lts as lts
-use Rattle.reader.proofs.read_vectors.Reads as reads
-use Rattle.reader.proofs.read_vectors.Tie as tie
+use native.Mathlib.Nat.{suc-mul}
+use native.Mathlib.Numerals.{add-one}
+use Rattle.std.proofs.lemmas.Result.{err_from_is_err_and}
+use Rattle.block.specs.Reading.{own_count, header_size, owned_size, count_at}
+use Rattle.block.proofs.Parts.{rest_none, rest_ended, rest_refused}
+use Rattle.block.proofs.Stored.{stored_small, stored_fits}
 use Rattle.reader.proofs.read_vectors.Goals as goal
 
--- What is left is a vector and what follows it
-room : (c : lts.In-loop tie.the-claims reads.Pre reads.Post goal.the-invariant-loop-k goal.the-decreases-loop-k) → let a = c.args in
-    (a.n - c.loop-k.k) * owned_size a.own a.m a.q
-    ≡ (a.n - (c.loop-k.k + 1)) * owned_size a.own a.m a.q + owned_size a.own a.m a.q
-room c =
-    let a = c.args in
-    rest_room a.n c.loop-k.k a.own a.m a.q a.bytes.now a.at a.from a.numbers.now c.loop-k-test.true
-    (owned_size a.own a.m a.q)
-
-pub returns-in-Refused : goal.returns-in-Refused
-returns-in-Refused c =
-    sym (c.loop-k.invariant.3 ∙ rest_refused _ _ _ _ _ _ _ _ _ c.loop-k-test.true _ _ (rw c.in-Refused.is at c.read_part.ensures))
+pub loop-k-init : goal.loop-k-init
+loop-k-init c =
+    let l = c.args.numbers.now in
+    let all : count_at 2 l - 0 ≡ count_at 2 l = omega arith in
+    let start : header_size c.args.layout + 0 * owned_size (own_count c.args.layout) (count_at 0 l) (count_at 1 l) ≡ header_size c.args.layout = omega arith in
+    rw (c.count_at-m.ensures, c.count_at-q.ensures, c.count_at-n.ensures, all, start)
 
 pub loop-k-preserved : goal.loop-k-preserved
 loop-k-preserved c =
-    let size = c.loop-k.invariant.0 in (
-      size,
-      omega arith,
-      omega (arith, room c.before.before.before.before),
-      rw size (c.loop-k.invariant.3 ∙ rest_ended _ _ _ _ _ _ _ _ _ c.loop-k-test.true _ _ (rw c.in-Ended.is at c.read_part.ensures)),
-    )
+    let size = owned_size (own_count c.args.layout) c.count_at-m.result c.count_at-q.result in
+    let first = header_size c.args.layout in
+    let next : first + (c.loop-k.k + 1) * size ≡ first + c.loop-k.k * size + size = rw (add-one, suc-mul c.loop-k.k size) (omega arith) in
+    rw next
+    (c.loop-k.invariant
+    ∙ rest_ended _ _ _ _ _ _ _ _ _ c.loop-k-test.true _ _ (rw (c.own_count.ensures, c.vector_start-first.ensures) at c.in_ok-place.ensures))
+
+pub returns-in_err-place : goal.returns-in_err-place
+returns-in_err-place c =
+    let p = err_from_is_err_and c.from_residual.result c.from_residual.ensures.1 in
+    rw (p.1, p.2)
+    (sym (c.loop-k.invariant ∙ rest_refused _ _ _ _ _ _ _ _ _ c.loop-k-test.true _ _ (rw (c.own_count.ensures, c.vector_start-first.ensures) at c.in_err-place.ensures)))
 
 pub read_part-requires : goal.read_part-requires
 read_part-requires c =
-    (c.requires.0, omega (arith, room c.before.before, owned_numbers c.args.own c.args.m c.args.q))
+    let l = c.args.numbers.now in
+    let o = c.args.layout in
+    rw (c.vector_start-first.ensures, c.own_count.ensures, c.count_at-m.ensures, c.count_at-q.ensures)
+    (stored_small o l c.requires, stored_fits o l c.requires c.loop-k.k (omega arith))
 
 pub returns : goal.returns
-returns c =
-    let l = c.loop-k in sym (l.invariant.3 ∙ rest_none _ _ _ _ _ _ _ _ _ c.loop-k-test.false)
+returns c = sym (c.loop-k.invariant ∙ rest_none _ _ _ _ _ _ _ _ _ (omega arith))

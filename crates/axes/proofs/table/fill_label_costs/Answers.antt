@@ -1,79 +1,66 @@
--- The invariant: the costs of the first 2^b labels are there. The table was one that had another first cost, whatever that was.
-use borrow.Author.Rules.{sfits_of}
-use mathlib.Core.Path.{◌≡◌, refl, sym, subst}
-use Prim.Native.Nat.{suc, ◌≤◌, ◌<◌, ◌+◌, ◌*◌, ◌^◌}
-use native.Mathlib.Nat.{pow-suc}
+-- The invariant: the costs of the first 2^b labels are there.
+use mathlib.Core.Path.{◌≡◌, refl}
 use native.Mathlib.Omega.{arith}
-use lib.IntN.{ℤ, nat_abs}
-use lib.ListN.{length}
+use native.Mathlib.Nat.{pow-suc}
+use lib.IntN.{ℤ, pos, ◌+ℤ◌}
+use lib.ListN.{length, get_or}
 use lib.Pow.{pow_mono}
-use mir.Syntax.{w32}
+use Prim.Native.Nat.{suc, ◌-◌, ◌^◌, ◌<◌, ◌≤◌}
+use lib.ListN.{length-set}
+use Rattle.axes.proofs.Doubled.{doubled_is}
 use mir.Facts.{to_z_pos, to_z-of_z}
+use mir.Val.{SFits}
+use mir.Syntax.{w32}
+use borrow.Author.Rules.{sfits_of}
+use Rattle.std.proofs.Common.{rules}
 use Rattle.integers.proofs.Fits.{sfits_abs}
-use Rattle.metric.specs.Parts.{axis_width, part, filled_from}
+use Rattle.metric.specs.Parts.{filled, filled_from}
 use Rattle.axes.specs.Tables.{label_cost}
-use Rattle.axes.proofs.Costs.{cost_small, raised_is, raised_all}
-use Rattle.metric.proofs.Shifts.{one_shifted}
-use Rattle.axes.proofs.table.fill_label_costs.Lts as lts
-use Rattle.axes.proofs.table.fill_label_costs.Reads as reads
-use Rattle.axes.proofs.table.fill_label_costs.Tie as tie
+use Rattle.axes.proofs.Costs.{cost_small, raised_fits, raised_all}
 use Rattle.axes.proofs.table.fill_label_costs.Goals as goal
 
--- The cost of the first label fits 32 bits
-small : (c : lts.After-axis_cost tie.the-claims reads.Pre reads.Post goal.the-invariant-loop-b goal.the-decreases-loop-b) → c.axis_cost.result < 2 ^ 31
+pub overflow_cast-costs : goal.overflow_cast-costs
 unfolding label_cost
-small c =
-    let a = c.args in
-    let p = c.requires.0 in
-    omega (arith, c.axis_cost.ensures, cost_small (part a.numbers.now a.from a.w) a.w 0 p.bits p.range)
+overflow_cast-costs c = sfits_abs _ (omega (arith, cost_small c.args.priors.now 0 c.requires.0))
 
--- The first label's cost, written before the loop, is where that starts
-so_far : (c : lts.At-loop tie.the-claims reads.Pre reads.Post goal.the-invariant-loop-b goal.the-decreases-loop-b)
-    → let a = c.args in
-    c.loop-b.tables ≡ filled_from a.at (label_cost (part a.numbers.now a.from a.w) a.w) (2 ^ c.loop-b.b) a.tables.now
-unfolding filled_from label_cost
-so_far c =
-    let a = c.args in
-    let e : a.at + 0 ≡ a.at = omega arith in
-    c.loop-b.invariant.1 a.tables.now (rw (e, to_z_pos w32 (small c.before), c.axis_cost.ensures) refl)
+pub loop-b-init : goal.loop-b-init
+unfolding filled label_cost
+loop-b-init c =
+    let small : c.first_cost.result < 2 ^ 31 = omega (arith, cost_small c.args.priors.now 0 c.requires.0) in
+    rw (to_z_pos w32 small, c.first_cost.ensures) refl
 
-turns_few : (c : lts.In-loop tie.the-claims reads.Pre reads.Post goal.the-invariant-loop-b goal.the-decreases-loop-b) → c.loop-b.b < axis_width
-turns_few c = omega (arith, c.requires.0.bits, c.loop-b-test.true)
+-- The prior of a turn
+abbrev prior_of : goal.After-labels → ℤ
+prior_of c = let p = c.args.priors.now in get_or p (length p - 1 - c.loop-b.b) (pos 0)
 
--- The table has room for the costs of one bit more
-room : (c : lts.After-double_costs-arg tie.the-claims reads.Pre reads.Post goal.the-invariant-loop-b goal.the-decreases-loop-b)
-    → c.args.at + 2 * 2 ^ c.loop-b.b ≤ length c.loop-b.tables
-room c =
-    let b = c.loop-b.b in
-    let h : suc b ≤ axis_width = turns_few c.before.before in
-    omega (arith, c.double_costs-arg-1.given.0.1, c.requires.1, pow-suc 2 b, pow_mono h)
+-- There is room for the costs of all labels, and so for those of one bit more
+room : (c : goal.After-labels) → 2 ^ length c.args.priors.now ≤ length c.loop-b.costs
+room c = omega (arith, length-set {A = ℤ}, pow_mono c.requires.0.bits)
 
-pub double_costs-requires : goal.double_costs-requires
-double_costs-requires c =
-    let a = c.args in
-    let p = c.requires.0 in
-    rw (one_shifted c.loop-b.b (omega (arith, turns_few c.before.before)), to_z-of_z {w = w32} (sfits_of c.prior-1.given)) (
-      room c,
-      λ g h.
-          subst (λ (z : ℤ). nat_abs z < 2 ^ 31)
-          (sym
-          (raised_is a.numbers.now a.tables.now a.from a.at c.loop-b-test.true (omega (arith, room c)) (so_far c.before.before.before) g h))
-          (cost_small (part a.numbers.now a.from a.w) a.w (2 ^ c.loop-b.b + g) p.bits p.range),
-    )
+pub double-requires-clause-room : goal.double-requires-clause-room
+double-requires-clause-room c =
+    let h : suc c.loop-b.b ≤ length c.args.priors.now = omega arith in
+    omega (arith, room c, pow-suc 2 c.loop-b.b, pow_mono h)
+
+pub double-requires-clause-may : goal.double-requires-clause-may
+double-requires-clause-may c = λ g d h κs r e s t.
+    let k : g < 2 ^ c.loop-b.b = omega arith in
+    let cost : SFits w32 (get_or c.loop-b.costs g d) = sfits_of e.1.0 in
+    let prior : SFits w32 (prior_of c) = search rules in
+    simp to_z-of_z
+    (raised_fits c.args.priors.now c.args.costs.now c.loop-b-test.true (room c) c.loop-b.invariant c.requires.0 g d k)
 
 pub loop-b-preserved : goal.loop-b-preserved
 loop-b-preserved c =
-    let a = c.args in (
-      omega (arith, c.loop-b-test.true),
-      λ old e.
-          raised_all a.numbers.now old a.from a.at c.loop-b-test.true (omega (arith, room c.before))
-          (c.loop-b.invariant.1 old e) _ _ _ (one_shifted c.loop-b.b (omega (arith, turns_few c.before.before.before)))
-          (to_z-of_z {w = w32} (sfits_of c.prior-1.given)) c.double_costs.ensures,
-    )
-
-pub returns : goal.returns
-returns c = let e : c.loop-b.b ≡ c.args.w = omega arith in rw e at (so_far c.before)
-
-pub overflow_cast-tables : goal.overflow_cast-tables
-overflow_cast-tables c =
-    sfits_abs _ (small c)
+    let p = c.args.priors.now in
+    let prior : ℤ = get_or p (length p - 1 - c.loop-b.b) (pos 0) in
+    let whole : 2 ^ length p ≤ length c.loop-b.costs = omega (arith, length-set {A = ℤ}, pow_mono c.requires.0.bits) in
+    let h : suc c.loop-b.b ≤ length p = omega arith in
+    let more : c.double.new.entries ≡ filled_from c.labels.result (λ g. get_or c.loop-b.costs g (pos 0) +ℤ prior) c.labels.result c.loop-b.costs =
+    doubled_is c.double.ensures (omega (arith, pow-suc 2 c.loop-b.b, pow_mono h)) (λ z. z +ℤ prior) (pos 0) (λ g y k h.
+    let cost : SFits w32 (get_or c.loop-b.costs g (pos 0)) = search rules in
+    let price : SFits w32 prior = search rules in
+    let l : g < 2 ^ c.loop-b.b = omega arith in
+    let sum = raised_fits p c.args.costs.now c.loop-b-test.true whole c.loop-b.invariant c.requires.0 g (pos 0) l in
+    search (rules, to_z-of_z)) in
+    raised_all p c.args.costs.now c.loop-b-test.true whole c.loop-b.invariant c.double.new.entries (rw c.labels.ensures at more)
