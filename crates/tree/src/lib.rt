@@ -50,6 +50,7 @@ pub struct Complex {
 impl Mul for Complex {
     type Output = Complex;
 
+    // With parts below 2 to the 31 neither a product nor a sum of two wraps.
     ghost can_mul = { λ a b. (nat_abs a.re < 2 ^ 31) × (nat_abs a.im < 2 ^ 31) × (nat_abs b.re < 2 ^ 31) × (nat_abs b.im < 2 ^ 31) };
 
     ghost mul_gives = { λ a b r. (r.re ≡ a.re *ℤ b.re -ℤ a.im *ℤ b.im) × (r.im ≡ a.re *ℤ b.im +ℤ a.im *ℤ b.re) };
@@ -64,6 +65,7 @@ impl Mul for Complex {
 impl Sub for Complex {
     type Output = Complex;
 
+    // With parts below 2 to the 62 no difference wraps.
     ghost can_sub = { λ a b. (nat_abs a.re < 2 ^ 62) × (nat_abs a.im < 2 ^ 62) × (nat_abs b.re < 2 ^ 62) × (nat_abs b.im < 2 ^ 62) };
 
     ghost sub_gives = { λ a b r. (r.re ≡ a.re -ℤ b.re) × (r.im ≡ a.im -ℤ b.im) };
