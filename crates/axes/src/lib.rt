@@ -8,6 +8,7 @@ mod table;
 
 ghost use Rattle.std.specs.Prelude.{ℕ, ◌≡◌, ◌*◌, ◌<◌, ◌≤◌, ◌^◌, length, get_or};
 ghost use Rattle.model.specs.Block.{most_width};
+ghost use Rattle.metric.specs.Parts.{axis_width, span};
 ghost use Rattle.axes.specs.Doubled.{Doubled};
 
 use metric::AXES;
@@ -20,10 +21,11 @@ const SPAN: usize = AXES / 2;
 // The places of a vector's table: for each axis of each row a span of products and one of prior costs.
 pub const TABLE: usize = 16 * SPAN;
 
-// How many labels of w bits there are.
+// How many labels of w bits there are: on an axis at most a span.
 pub fn labels(w: usize) -> usize
     requires { w ≤ most_width }
-    ensures { result ≡ 2 ^ w }
+    ensures value { result ≡ 2 ^ w }
+    ensures few { w ≤ axis_width → result ≤ span }
 {
     1 << w
 }

@@ -20,6 +20,7 @@ pub const ENTRIES: usize = 32;
 // as many for a stream as its two axes have labels at most.
 pub const STREAM: usize = 2 * SPAN;
 
+// In calls it is a slice, not an array of so many: it is a part of the minima of hypotheses, lent as it stands.
 pub const LIMITS: usize = ENTRIES + 4 * STREAM;
 
 // What `fill` is told where the limits of every stream are changed.

@@ -30,4 +30,4 @@ loop-b-preserved c =
     let h : suc c.loop-b.b ≤ length own = omega arith in
     let more : c.double.new.entries ≡ filled_from c.labels.result (λ g. max (get_or c.loop-b.entries g 0) limit) c.labels.result c.loop-b.entries =
     doubled_is c.double.ensures (omega (arith, pow-suc 2 c.loop-b.b, pow_mono h)) (λ x. max x limit) 0 (λ g y k e. search rules) in
-    axis_more own c.args.entries.now c.loop-b-test.true whole c.loop-b.invariant c.double.new.entries (rw c.labels.ensures at more)
+    axis_more own c.args.entries.now c.loop-b-test.true whole c.loop-b.invariant c.double.new.entries (rw c.labels.ensures.value at more)

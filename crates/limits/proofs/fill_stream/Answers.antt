@@ -17,7 +17,7 @@ returns c =
     let axes =
     subst (λ (x : List ℕ). AxesFilled a.q a.limits.now x a.j) (sym c.fill_axes.ensures)
     (axes_in_lem a.q a.j a.limits.now asked.bits asked.label asked.inside asked.size) in
-    let own = c.stream_reach-own.ensures ∙ ap (λ (n : ℕ). stream_reach a.q limits a.j (n - 1)) c.labels.ensures in
+    let own = c.stream_reach-own.ensures ∙ ap (λ (n : ℕ). stream_reach a.q limits a.j (n - 1)) c.labels.ensures.value in
     rw (← add-one a.j)
     (ap₂ (λ (x : List ℕ) (u : ℕ). set x (first_place (a.j + 1)) u) c.fill_axes.ensures
     (c.max.ensures ∙ ap (max (get_or limits (first_place a.j) 0)) own ∙ widest_is asked.inside asked.size axes))

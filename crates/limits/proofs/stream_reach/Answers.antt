@@ -26,7 +26,7 @@ pub bounds-limits-at-2 : goal.bounds-limits-at-2
 bounds-limits-at-2 c =
     let q = c.args.q in
     let h : q / 2 ≤ axis_width = omega arith in
-    omega (arith, mask c.args.symbol (q / 2) c.labels.result c.labels.ensures, mod-lt c.args.symbol (pow_pos (q / 2)), pow_mono h)
+    omega (arith, mask c.args.symbol (q / 2) c.labels.result c.labels.ensures.value, mod-lt c.args.symbol (pow_pos (q / 2)), pow_mono h)
 
 pub returns : goal.returns
 unfolding stream_reach
@@ -34,4 +34,4 @@ returns c =
     let a = c.args in
     let re = get_or a.limits.now (entry_place a.j real + a.symbol / 2 ^ (a.q / 2)) 0 in
     c.max.ensures
-    ∙ ap (λ (n : ℕ). max re (get_or a.limits.now (entry_place a.j imaginary + n) 0)) (mask a.symbol (a.q / 2) c.labels.result c.labels.ensures)
+    ∙ ap (λ (n : ℕ). max re (get_or a.limits.now (entry_place a.j imaginary + n) 0)) (mask a.symbol (a.q / 2) c.labels.result c.labels.ensures.value)

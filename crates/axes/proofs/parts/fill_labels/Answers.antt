@@ -1,10 +1,8 @@
 -- The invariant: the first g places are filled.
 use mathlib.Core.Path.{refl}
 use Prim.Native.Nat.{◌+◌}
-use native.Mathlib.Omega.{arith}
 use lib.IntN.{pos}
 use lib.ListN.{get_or}
-use lib.Pow.{pow_mono}
 use mir.Syntax.{w32, w64}
 use mir.Val.{SFits, to_z, of_z}
 use mir.Facts.{to_z-of_z}
@@ -17,15 +15,6 @@ use Rattle.axes.proofs.parts.fill_labels.Goals as goal
 pub loop-g-init : goal.loop-g-init
 unfolding filled
 loop-g-init c = refl
-
-pub bounds-tables-at : goal.bounds-tables-at
-bounds-tables-at c = omega (arith, pow_mono c.requires.0.bits)
-
-pub bounds-tables-at-in-loop-g : goal.bounds-tables-at-in-loop-g
-bounds-tables-at-in-loop-g c = omega (arith, pow_mono c.requires.0.bits)
-
-pub bounds-parts-g : goal.bounds-parts-g
-bounds-parts-g c = omega (arith, pow_mono c.requires.0.bits)
 
 -- The two entries, as they were read
 pub loop-g-preserved : goal.loop-g-preserved

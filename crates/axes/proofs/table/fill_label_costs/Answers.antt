@@ -63,4 +63,4 @@ loop-b-preserved c =
     let l : g < 2 ^ c.loop-b.b = omega arith in
     let sum = raised_fits p c.args.costs.now c.loop-b-test.true whole c.loop-b.invariant c.requires.0 g (pos 0) l in
     search (rules, to_z-of_z)) in
-    raised_all p c.args.costs.now c.loop-b-test.true whole c.loop-b.invariant c.double.new.entries (rw c.labels.ensures at more)
+    raised_all p c.args.costs.now c.loop-b-test.true whole c.loop-b.invariant c.double.new.entries (rw c.labels.ensures.value at more)

@@ -24,7 +24,7 @@ fill_entries-requires c =
     let row = c.loop-row.row in
     let h = c.loop-row-test.true in
     let d : SFits w64 c.element-diagonal.result = search rules in (
-      real_amplitudes c.requires.2 c.requires.0.bits _ (ap (λ (n : ℕ). 2 * n) c.labels.ensures),
+      real_amplitudes c.requires.2 c.requires.0.bits _ (ap (λ (n : ℕ). 2 * n) c.labels.ensures.value),
       entries_asked c.requires.0 row h real _ _ (priors_lent c.requires.0 row h real _ (omega arith)) (to_z-of_z d ∙ c.element-diagonal.ensures),
       omega (arith, length-take {A = ℤ}, length-drop {A = ℤ}),
     )

@@ -2,7 +2,6 @@
 use mathlib.Core.Path.{◌≡◌, refl, ap, ◌∙◌}
 use native.Mathlib.Omega.{arith}
 use lib.IntN.{nat_abs, ◌*ℤ◌}
-use lib.Pow.{pow_mono}
 use mir.Syntax.{w32, w64}
 use mir.Val.{SFits, to_z, of_z}
 use mir.Facts.{to_z-of_z}
@@ -28,9 +27,6 @@ axis_product-requires c =
     let a : SFits w64 c.amplitude-amplitude.result = search rules in
     simp to_z-of_z
     (c.requires.1, omega (arith, ap nat_abs (value c), amplitude_few c.args.self.bits c.loop-g.g c.requires.0.bits))
-
-pub bounds-products-g : goal.bounds-products-g
-bounds-products-g c = omega (arith, pow_mono c.requires.0.bits)
 
 pub loop-g-preserved : goal.loop-g-preserved
 unfolding label_product
