@@ -29,7 +29,7 @@ fn least_opposite(negative: bool, bit: bool, low: u64, beyond: u64) -> u64
 }
 
 impl ByFolds {
-    // The axis itself, its width given once more: of that the compiler may know what it is.
+    // The axis itself, its width given once more as a number that the compiler may know.
     fn with_width(self, width: usize) -> ByFolds
         requires { width ≡ self.width }
         ensures { result ≡ self }
@@ -52,6 +52,7 @@ impl ByFolds {
         if low < limits.entries[0] {
             return true;
         }
+        // A `for` and not a chain: what remains is folded from bit to bit.
         let mut x = self.left;
         for k in (0..self.width).rev() {
             let bit = (limits.own >> k) & 1 == 1;

@@ -9,7 +9,7 @@ ghost use Rattle.std.proofs.Props.{props};
 use super::{Axis, Limits, SPAN};
 use metric::{AXES, sized};
 
-// The vector's table from the axis's entries on, what remains of y on the axis, and how many bits a label has.
+// The axis's entries in the vector's table, its labels' products and then their costs, what remains of y on it, and how many bits a label has.
 #[derive(Clone, Copy)]
 pub struct ByTable<'a> {
     pub entries: &'a [i32; AXES],
@@ -19,7 +19,7 @@ pub struct ByTable<'a> {
 }
 
 impl<'a> ByTable<'a> {
-    // The axis itself, its width given once more: of that the compiler may know what it is.
+    // The axis itself, its width given once more as a number that the compiler may know.
     fn with_width(self, width: usize) -> ByTable<'a>
         requires { width ≡ self.width }
         ensures { (result.entries.now ≡ self.entry.entries.now) × (result.left ≡ self.entry.left) × (result.width ≡ width) }
@@ -42,11 +42,13 @@ impl<'a> ByTable<'a> {
     // Is one of the labels, with `other` added to its part, below the widest limit of the bits in which it differs from the best label's part?
     fn any_part(self, other: u64, limits: Limits) -> bool
         requires { (other < 2 ^ 63) × (limits.own < 2 ^ self.width) }
-        ensures { result ≡ any_part limits.entry.entries.now 0 (table_part self.entry.entries.now 0 self.entry.left) other limits.entry.own 0 (2 ^ self.entry.width) }
+        ensures { result ≡ any_part limits.entry.entries.now 0 (table_part self.entry.entries.now 0 self.entry.left) other limits.entry.own
+            0 (2 ^ self.entry.width) }
     {
         (0..1 << self.width).any(|g| other + self.part(g) < limits.entries[g ^ limits.own])
     }
 
+    // The least of the labels' parts.
     fn least_part(self) -> u64
         ensures { (result ≡ least_part (table_part self.entry.entries.now 0 self.entry.left) (2 ^ self.entry.width - 1)) × (result < 2 ^ 62) }
     {
