@@ -44,6 +44,7 @@ fn limit(opposite: u64, reach: i64) -> u64
 }
 
 // Does a leaf come before the best label? By metric, equal ones by prior cost, and only then by number.
+#[tactic(auto, unfolding(model::specs::Order::earlier))]
 fn comes_sooner(leaf: Node, kept: Kept) -> bool
     ensures { result ≡ earlier (leaf.partial ∷ leaf.cost ∷ leaf.bits ∷ []) (kept.best ∷ kept.cost ∷ kept.label ∷ []) }
 {
