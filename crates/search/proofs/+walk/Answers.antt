@@ -66,7 +66,6 @@ take-k-requires t c =
     rw (r.1, c.counted.ensures) (
       v.asked,
       partial_under v.asked child,
-      c.loop-tried.invariant.whole,
       leaf_placed v.asked child r.2,
       h.limited,
       leaf_cost _ r.2 child.parts,

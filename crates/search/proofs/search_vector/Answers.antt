@@ -21,7 +21,6 @@ write_soft-requires c =
       asked,
       rw c.empty_side-empty.ensures (empty_most c.begin-end.result.stopped c.requires.1),
       end_low asked c.args.task.allowance c.begin-end.ensures.found,
-      c.begin-end.array_long,
     )
 
 pub returns : goal.returns
