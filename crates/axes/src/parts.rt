@@ -15,7 +15,7 @@ pub fn axis_part(left: i64, product: i32, cost: i32) -> u64
     requires { (nat_abs left < remainder_bound) × (nat_abs product < remainder_bound) × (cost ≡ pos (nat_abs cost)) }
     ensures { result ≡ nat_abs (left -ℤ product) * nat_abs (left -ℤ product) + nat_abs cost }
 {
-    integers::square(metric::less(left, product as i64)) + cost as u64
+    integers::square(metric::less(left, i64::from(product))) + cost as u64
 }
 
 // What it adds to a key: the same, with its prior cost behind it.
@@ -46,8 +46,8 @@ fn fill_axis(tables: &[i32; TABLE], at: usize, left: i64, w: usize, parts: &mut 
     sized::<3, 3, _, _>(w, &mut |w| fill_labels(tables, at, left, w, parts))
 }
 
-// What the labels of both axes add to keys at a node, in one array: those of the real labels, then, a span later, those of the imaginary ones. `left` is what
-// remains of y in the row.
+// What the labels of both axes add to keys at a node, in one array: those of the real labels, then, a span later, those of the imaginary ones.
+// `left` is what remains of y in the row.
 pub fn fill_parts(
     task: Task,
     row: usize,
