@@ -11,8 +11,7 @@ use Rattle.model.specs.Metric.{Vector}
 use Rattle.model.specs.Block.{most_bits}
 use Rattle.block.proofs.Places.{rows_count}
 use Rattle.metric.specs.Rows.{VectorAsked}
-use Rattle.search_spec.specs.Program.{most_children, above, Ranged}
-use Rattle.search_spec.proofs.Answer.{few_children}
+use Rattle.search_spec.specs.Program.{above, Ranged}
 use Rattle.search_spec.proofs.Bounds.{chosen_by_lem, partial_under as kid_Under, partial_low}
 use Rattle.enumeration.specs.Rows.{key_count}
 use Rattle.hypotheses.specs.Limits.{vector_at, SearchAsked}
@@ -47,17 +46,11 @@ module _ {m q clip : ℕ} {numbers : List ℤ} (a : SearchAsked m q clip numbers
   within = omega (arith, streams, w.inside)
 
   -- The sizes that the code computes with
-  pub kids_few : 2 ^ q ≤ most_children
-  kids_few = few_children v in_range
-
   pub partial_under : n.partial < above
   partial_under = lt_of_le_of_lt w.bounded (partial_low v in_range n.level)
 
   pub partial_few : n.partial ≤ above
   partial_few = le_of_lt partial_under
-
-  pub chosen_few : (m - n.level) * q ≤ most_bits
-  chosen_few = rest_few n.level a.vector
 
   pub node_placed : n.bits < 2 ^ ((m - n.level) * q)
   node_placed = subst (λ (x : ℕ). n.bits < 2 ^ x) (chosen_by_lem v m n.level (sym streams)) w.placed

@@ -15,8 +15,9 @@ use constellation::PLACES;
 use metric::AXES;
 use tree::{Complex, Kept, Node, Task};
 
-// A vector that is ready to be searched: what its search is asked, the points of its constellation, its numbers, and its table. A search may be
-// asked for it.
+// A vector that is ready to be searched: what its search is asked, the points of its constellation, its numbers, and its table. The ghost fields
+// say that a search may be asked for it, and that the points and the table are its own. None of it changes in its search, so it goes by value:
+// behind a reference it would be read again after every write to the keys.
 #[derive(Clone, Copy)]
 pub struct Vector<'a> {
     pub task: Task,
@@ -101,7 +102,8 @@ impl Vector<'_> {
         )
     }
 
-    // The keys of all children of a node are filled in, where `left` remains of y in their row.
+    // The keys of all children of a node are filled in, where `left` remains of y in their row. Part of each caller: the walk does it at every
+    // node that it enters.
     #[inline(always)]
     fn fill_by(self, node: Node, left: Complex, keys: &mut [u64])
         requires { KeysAsked self.task self.numbers.now node keys.old

@@ -11,7 +11,7 @@ use Rattle.limits.specs.Reach.{limits_size}
 use lib.IntN.{ℤ}
 use Rattle.model.specs.Metric.{Vector}
 use Rattle.block.proofs.Places.{rows_count}
-use Rattle.model.specs.Block.{most_width, most_bits}
+use Rattle.model.specs.Block.{most_bits}
 use Rattle.metric.specs.Keys.{metric_in}
 use Rattle.search_spec.specs.Arrays.{least_first}
 use Rattle.search_spec.specs.Program.{above, tried, Taken, Kept, kept_of, limits_of, passing, noted, chosen, partial_of, key_of, child_in, below, rest_of}
@@ -31,7 +31,7 @@ use Rattle.turn.specs.Turn.{behind, NextAsked, next_of}
 use Rattle.expansion.specs.Expand.{NodeIn, kid_key, Shut, Filled}
 use Rattle.tree.specs.declared.Node.{Node}
 use Rattle.expansion.proofs.Rows.{partial_by, key_by}
-use Rattle.expansion.proofs.Nodes.{keys_rise, room_for, in_range, within, node_placed, level_up, some, row_inside, kid_low}
+use Rattle.expansion.proofs.Nodes.{room_for, in_range, within, node_placed, level_up, some, row_inside, kid_low}
 use Rattle.turn.proofs.Levels.{room_below}
 use Rattle.turn.proofs.Limits.{passing_by, child_reach, would_cut}
 use Rattle.turn.proofs.Next.{next_low, next_within, next_bits, next_in}
@@ -62,10 +62,6 @@ module _ {m q clip : ℕ} {numbers : List ℤ} (a : SearchAsked m q clip numbers
 
   streams : length v.rows ≡ m
   streams = rows_count m q numbers
-
-  -- The places of its keys are few
-  pub places_few : key_count q ≤ key_count most_width
-  places_few = keys_rise a.vector.bits
 
   pub limits_asked : (t : Taken) (limits : List ℕ) → Limited v t limits → LimitsAsked m q limits
   limits_asked t limits limited = subst (λ (k : ℕ). LimitsAsked k q limits) streams limited.asked

@@ -61,7 +61,13 @@ fn renew_node(vector: Vector<'_>, node: Node, label: u32, limits: &[u64]) -> Nod
 
 // The search below a node: its children, whose keys are filled in, are tried in order, each cut, counted, taken as a leaf or searched, until
 // they end. The keys of the levels below stand behind them.
-fn walk(vector: Vector<'_>, node: Node, kept: Kept, minima: &mut [u64; hypotheses::MINIMA], keys: &mut [u64]) -> Kept
+fn walk(
+    vector: Vector<'_>,
+    node: Node,
+    kept: Kept,
+    minima: &mut [u64; hypotheses::MINIMA],
+    keys: &mut [u64],
+) -> Kept
     requires asked { NodeAsked vector.task.streams vector.task.width vector.task.clip vector.numbers.now node
         (taken_in kept.label kept.best minima.old) (limits_of minima.old) keys.old }
     requires inner { 0 < node.level }
@@ -105,7 +111,13 @@ fn walk(vector: Vector<'_>, node: Node, kept: Kept, minima: &mut [u64; hypothese
 
 // The search below the root. Before the first leaf nothing is cut, so the keys of its children are filled in at once; and `expand` has one
 // caller, which the compiler then makes it part of.
-fn begin(vector: Vector<'_>, root: Node, kept: Kept, minima: &mut [u64; hypotheses::MINIMA], keys: &mut [u64]) -> Kept
+fn begin(
+    vector: Vector<'_>,
+    root: Node,
+    kept: Kept,
+    minima: &mut [u64; hypotheses::MINIMA],
+    keys: &mut [u64],
+) -> Kept
     requires asked { NodeAsked vector.task.streams vector.task.width vector.task.clip vector.numbers.now root
         (taken_in kept.label kept.best minima.old) (limits_of minima.old) keys.old }
     requires inner { 0 < root.level }

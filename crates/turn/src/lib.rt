@@ -80,13 +80,7 @@ fn next_child(
 
 // One turn over a node's children. They end where the node itself would not pass with the metric in the smallest key that is left; else the
 // child with that key is taken, cut or counted, and its own children are looked at; their keys stand behind the node's.
-pub fn advance(
-    vector: Vector<'_>,
-    node: Node,
-    kept: Kept,
-    limits: &[u64],
-    keys: &mut [u64],
-) -> Turn
+pub fn advance(vector: Vector<'_>, node: Node, kept: Kept, limits: &[u64], keys: &mut [u64]) -> Turn
     requires { AdvanceAsked vector.task vector.numbers.now node kept limits.now keys.old }
     ensures { Advanced vector.entry.task vector.entry.numbers.now node kept limits.now keys.old keys.new result }
 {

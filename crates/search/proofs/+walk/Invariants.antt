@@ -1,6 +1,6 @@
 -- The walk below a node ends: each goes one level down. Before each turn over the node's children the state is that of the search below the
 -- node after the children that were tried.
-use Rattle.std.proofs.Common.{◌-◌, ◌≡◌, false, ◌≤◌, ◌^◌, length}
+use Rattle.std.proofs.Common.{◌≡◌, false, length}
 use Rattle.search_spec.specs.Program.{taken_in, limits_of, kept_of, below}
 use Rattle.search_spec.specs.Parts.{BestParts}
 use Rattle.hypotheses.specs.Limits.{vector_for, minima_size}
