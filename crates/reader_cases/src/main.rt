@@ -46,6 +46,7 @@ fn owners(last: u8) -> usize
 }
 
 // How many whole numbers a record has, by these and its M, Q and N. A vector's priors are at most 24: Q = 8 is with up to three streams.
+#[tactic(auto, using(crate::proofs::Numbers::sums))]
 fn count(header: usize, own: usize, numbers: &[i32; MOST_NUMBERS]) -> usize
     requires { (header ≤ 6) × (own ≤ 1) }
     ensures { (result ≡ count_of header own numbers.now) × (result ≤ most_numbers) }

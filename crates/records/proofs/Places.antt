@@ -20,10 +20,10 @@ use Rattle.refusals.specs.declared.Kind.TheVariants.{StreamCount}
 use Rattle.block.specs.declared.Layout.{Layout}
 use Rattle.refusals.proofs.Tests.{and_right}
 use Rattle.block.proofs.Ranges.{between_plain, allowed_width}
-use Rattle.block.proofs.Runs.{kind_in}
-use Rattle.block.proofs.Parts.{AllAllowed, allowed_at, allowed_length, plain_most, width_most, label_most, weak_few, all_fit}
+use Rattle.block.proofs.Runs.{kind_in, weak_kind, share_kind}
+use Rattle.block.proofs.Parts.{AllAllowed, allowed_at, allowed_length, plain_most, width_most, label_most, weak_few, own_few, all_fit}
 use Rattle.block.proofs.Accepted.{kinds_count}
-use Rattle.block.proofs.CalledFor.{record_header, called_at, called_few, called_more, Grounded, record_grounded}
+use Rattle.block.proofs.CalledFor.{record_header, record_vector, called_at, called_few, called_more, Grounded, record_grounded}
 use Rattle.records.specs.Steps.{kind_at, FirstAllowed, Asked, Called, Sized, number_count}
 use Rattle.records.proofs.Numbers.{Written, written}
 
@@ -112,6 +112,12 @@ module _ (o : Layout) (numbers : List ℤ) (i : ℕ) (l : i ≤ length numbers) 
   grounded_at h =
       subst Grounded (sym (called_at o numbers i h))
       (record_grounded o numbers i (omega (arith, called_few o numbers)) streams_plain clip_most)
+
+-- Behind C the header's kinds are those of W and D by the place
+pub ruleset header_laws = (weak_kind, share_kind)
+
+-- The kind at a place is that of the header, or of the vectors behind it
+pub ruleset kind_laws = (record_header, record_vector, called_at, called_few, own_few, sized)
 
 -- so where it is in its range too, it fits its groups
 pub written_at : (o : Layout) (numbers : List ℤ) (i : ℕ) → i < length (called_for o numbers) → i < length numbers → FirstAllowed o numbers (i + 1)

@@ -25,6 +25,7 @@ struct NumberList<'a> {
 
 impl NumberList<'_> {
     // The kind of the i-th number before the first vector.
+    #[tactic(auto, using(crate::proofs::Places::header_laws), unfolding(block::specs::Reading::kinds_of, block::specs::Reading::runs_of))]
     fn header_kind(&self, i: usize) -> Kind
         requires { (i < header_size self.now.layout) × (i < length self.now.numbers.now) }
         ensures { let numbers = self.now.numbers.now in
@@ -41,6 +42,7 @@ impl NumberList<'_> {
     }
 
     // The kind that the list calls for at a place, once the numbers before it are in their ranges.
+    #[tactic(auto, using(crate::proofs::Places::kind_laws))]
     fn kind_at(&self, i: usize) -> Kind
         requires { Asked self.now.layout self.now.numbers.now i }
         ensures { result ≡ kind_at self.now.layout self.now.numbers.now i }
@@ -66,6 +68,7 @@ impl NumberList<'_> {
     }
 
     // How many numbers the list calls for, as far as its first i tell, all of which are in their ranges.
+    #[tactic(auto, using(crate::proofs::Places::sized, crate::proofs::Places::called_within, crate::proofs::Places::called_behind))]
     fn called(&self, i: usize) -> usize
         requires { (i ≤ length self.now.numbers.now) × FirstAllowed self.now.layout self.now.numbers.now i }
         ensures { Called self.now.layout self.now.numbers.now i result }
@@ -147,6 +150,7 @@ fn matrix_kind(m: usize, j: usize) -> Kind
 }
 
 // The kind of number j of a vector, behind its owner's.
+#[tactic(auto, using(block::proofs::CalledFor::kind_in_matrix, block::proofs::CalledFor::kind_received, block::proofs::CalledFor::kind_prior))]
 fn vector_kind(m: usize, q: usize, j: usize) -> Kind
     requires { (m ≤ most_streams) × (q ≤ most_width) × (j < vector_size m q) }
     ensures { result ≡ get_or (kinds_of_vector m q) j StreamCount }
@@ -161,6 +165,7 @@ fn vector_kind(m: usize, q: usize, j: usize) -> Kind
 }
 
 // The kind of number i of the vectors, each with so many owner numbers before it. All of them have the same.
+#[tactic(auto, using(block::proofs::CalledFor::kind_owner, block::proofs::CalledFor::kind_behind_owner))]
 fn owned_kind(own: usize, m: usize, q: usize, i: usize) -> Kind
     requires { (own ≤ 1) × (1 ≤ m) × (m ≤ most_streams) × (q ≤ most_width) × (m * q ≤ most_bits) }
     ensures { result ≡ get_or (part_kinds (Vector own m q)) (i % owned_size own m q) StreamCount }
@@ -200,6 +205,7 @@ fn write_all(layout: Layout, numbers: &[i32], record: &mut [u8])
 }
 
 // A list's whole numbers, and the opening told by its number, written into the buffer.
+#[tactic(auto, unfolding(crate::specs::Writing::writing))]
 fn write(opening: u32, numbers: &[i32], record: &mut [u8]) -> Result<usize, Refusal>
     ensures { Fills (writing opening numbers.now (length «record».old)) «record».old result «record».new }
 {
@@ -223,6 +229,7 @@ fn read(record: &[u8], numbers: &mut [i32]) -> Result<usize, Refusal>
 
 // A list's whole numbers in, and the opening told by its number; record bytes out: how many, or minus the refusal number over an untouched
 // buffer.
+#[tactic(auto, using(crate::proofs::Outcomes::fills_call, crate::proofs::Outcomes::fills_few))]
 pub fn geckoneedle_write(opening: u32, numbers: &[i32], record: &mut [u8]) -> i64
     ensures { call result «record».new
         ≡ filling (writing opening numbers.now (length «record».old)) «record».old }
@@ -231,6 +238,7 @@ pub fn geckoneedle_write(opening: u32, numbers: &[i32], record: &mut [u8]) -> i6
 }
 
 // A record's bytes in, its whole numbers out: how many, or minus the refusal number over an untouched list.
+#[tactic(auto, using(crate::proofs::Outcomes::fills_call, crate::proofs::Outcomes::fills_few))]
 pub fn geckoneedle_read(record: &[u8], numbers: &mut [i32]) -> i64
     ensures { call result numbers.new
         ≡ filling (reading «record».now (length numbers.old)) numbers.old }
