@@ -1,43 +1,33 @@
 -- What the lent list and its header give: sizes that fit, and the answer that is written of a vector.
-use Prim.Native.Nat.{ℕ, zero, suc, ◌+◌, ◌*◌, ◌^◌, ◌≤◌, ◌<◌}
+use Prim.Native.Nat.{ℕ, ◌+◌, ◌*◌, ◌^◌, ◌≤◌, ◌<◌}
 use mathlib.Core.Path.{◌≡◌, sym, ◌∙◌, ap}
 use mathlib.Core.Bool.{Bool}
 use mathlib.Core.List.Memᴰ
-use mathlib.Core.List.{List, [], ◌∷◌, ◌++◌, map}
+use mathlib.Core.List.{List, ◌++◌}
 use native.Mathlib.Nat.{mul-le-mul, mul_assoc}
 use native.Mathlib.Omega.{arith}
-use lib.IntN.{ℤ, pos}
-use lib.ListN.{length, get_or, take, drop, length-append, length-drop, get_or-append}
+use lib.IntN.{ℤ}
+use lib.ListN.{length, take, drop, length-append, length-drop}
 use lib.Seq.{take_at}
-use Rattle.wire.specs.Writing.{Wrote}
-use Rattle.model.specs.Metric.{Vector, label_bits}
+use Rattle.model.specs.Metric.{Vector, label_bits, all_priors}
 use Rattle.model.specs.Constellation.{bits_of}
-use Rattle.model.specs.Block.{vector_of, Answer, answer, winning_distance, Every, VectorInRange, most_width, most_bits}
+use Rattle.model.specs.Block.{vector_of, Answer, answer, winning_distance, VectorInRange, most_width, most_bits}
 use Rattle.model.proofs.Lists.{in-up_from}
 use Rattle.model.proofs.Demand.{count_is}
 use Rattle.model.proofs.Parts.{distance_small}
 use Rattle.model.proofs.Bounds.{of_every, width_small}
-use Rattle.wire.specs.Folding.{folded}
 use Rattle.block.specs.Reading.{count_at}
 use Rattle.block.specs.Contents.{vector_rows, block_of}
 use Rattle.block.specs.declared.Layout.{Layout}
 use Rattle.block.proofs.Places.{vectors_count}
 use Rattle.search_spec.specs.Program.{answer_of}
 use Rattle.search.specs.Values.{Answered}
-use Rattle.replies.specs.Reply.{mark_of, answer_numbers, written, reply_room, most_reply}
+use Rattle.replies.specs.Reply.{answer_numbers, written, reply_room, most_reply}
 use Rattle.search.specs.Holds.{Holds}
 use Rattle.detector.specs.Steps.{Heads, SearchOneAsked, answer_at}
-use Rattle.replies.specs.Asked.{SoftAsked, FoundAsked}
+use Rattle.detector.specs.Handed.{Handed}
 use Rattle.detector.specs.declared.Header.{Header}
-use Rattle.replies.proofs.Replies.{Short, soft_count, bits_are, count_short, label_short, soft_short, answer_room}
-use Rattle.replies.proofs.Replies.{written_append}
-use Rattle.replies.proofs.Steps.{wrote_both}
-
--- What every member of a mapped list has, by its place
-every_at : (f : ℤ → ℕ) (zs : List ℤ) (i : ℕ) → Every Short (map f zs) → i < length zs → Short (f (get_or zs i (pos 0)))
-every_at f [] i h k = absurd (omega arith)
-every_at f (z ∷ zs) zero h k = h.0
-every_at f (z ∷ zs) (suc i) h k = every_at f zs i h.1 (omega arith)
+use Rattle.replies.proofs.Replies.{soft_count, bits_are, answer_room}
 
 module _ {h : Header} {list : List ℤ} (headed : Heads h list) where
   -- The header is the block's
@@ -97,6 +87,12 @@ module _ {h : Header} {list : List ℤ} (held : Holds h.layout list) (headed : H
 abbrev pub vector_in : Layout → List ℤ → ℕ → Vector
 vector_in o list k = vector_of (block_of o list) (vector_rows o list k)
 
+-- What is handed on of it under an allowance
+abbrev pub handed_at : Layout → List ℤ → ℕ → ℕ → Handed
+handed_at o list allowed k =
+    let a = answer_at o list allowed k in
+    record { place = k; answer = a; distance = winning_distance (vector_in o list k) a; priors = all_priors (vector_rows o list k) }
+
 module _ {h : Header} {list : List ℤ} {k : ℕ} {points : List ℤ} {keys bits : ℕ} (s : SearchOneAsked h list k points keys bits) where
   -- It is one of those that the list holds
   pub inside : k < count_at 2 list
@@ -144,28 +140,6 @@ module _ {h : Header} {list : List ℤ} {k : ℕ} {points : List ℤ} {keys : �
         s.array,
       )
 
-  -- What was found is small enough to be written
-  pub found_asked : {at room : ℕ} → at + (9 + 4 * h.streams * h.width) ≤ room → FoundAsked at count label room
-  found_asked fits =
-      let v = vector_held s in
-      record {
-        counts = rw found.count_is (count_short s.held.ranged v allowed);
-        labels = rw found.label_is (label_short s.held.ranged v allowed);
-        buffer = omega arith;
-      }
-
-  pub soft_asked : (at : ℕ) {next room room' : ℕ} → at + (9 + 4 * h.streams * h.width) ≤ room → room' ≡ room → next ≤ at + 9
-      → SoftAsked next (h.streams * h.width) after room'
-  soft_asked at fits same near = record {
-    few = few_soft s.held s.headed;
-    bits = after_length;
-    buffer = omega (arith, mul_assoc 4 h.streams h.width);
-    each = λ i j.
-        let inside : i < length soft = omega (arith, soft_length) in
-        rw (after_is, get_or-append soft (drop (h.streams * h.width) before) (pos 0) i inside)
-        (every_at folded soft i (soft_short s.held.ranged (vector_held s) allowed) inside);
-  }
-
   -- As a whole it is the answer
   pub answer_is : answer_of stopped count label (take (h.streams * h.width) after) ≡ answer_at h.layout list allowed k
   unfolding answer_at
@@ -194,18 +168,15 @@ module _ {h : Header} {list : List ℤ} {k : ℕ} {points : List ℤ} {keys : �
             (bits_of (label_bits (vector_in h.layout list k)) (answer_at h.layout list allowed k).result.label),
       )
 
+  -- So that is handed on of it
+  pub handed_is : {priors : List ℤ} → priors ≡ all_priors (vector_rows h.layout list k)
+      → record { place = k; answer = answer_of stopped count label (take (h.streams * h.width) after); distance = distance; priors = priors }
+      ≡ handed_at h.layout list allowed k
+  handed_is e = λ i. record { place = k; answer = answer_is i; distance = found_distance i; priors = e i }
+
   pub found_count : count ≡ (answer_at h.layout list allowed k).count
   found_count = ap (λ (x : Answer). x.count) answer_is
 
-  -- with no more nodes than were allowed,
+  -- with no more nodes than were allowed
   pub found_within : count ≤ allowed
   found_within = omega (arith, found.count_is, count_is (vector_in h.layout list k) (block_of h.layout list).weak allowed)
-
-  -- which is written in two parts
-  pub found_wrote : {l mid end : List ℕ} {at next last : ℕ} → Wrote l at (written (mark_of stopped ∷ count ∷ label ∷ [])) mid next
-      → Wrote mid next (written (map folded (take (h.streams * h.width) after))) end last
-      → Wrote l at (written (answer_numbers (answer_at h.layout list allowed k))) end last
-  found_wrote =
-      let softs = map folded (take (h.streams * h.width) after) in
-      wrote_both
-      (ap (λ (x : Answer). written (answer_numbers x)) (sym answer_is) ∙ written_append (mark_of stopped ∷ count ∷ label ∷ []) softs)

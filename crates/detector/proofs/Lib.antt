@@ -1,7 +1,9 @@
 pub mod Demands
 pub mod Owners
 pub mod Held
-pub mod Turns
+pub mod Priors
 pub mod Shares
+pub mod Turns
+pub mod Writing
 pub mod Outcomes
 pub mod Readings

@@ -1,3 +1,4 @@
 pub mod Outcome
 pub mod Demand
 pub mod Steps
+pub mod Handed

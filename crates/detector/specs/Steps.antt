@@ -1,5 +1,7 @@
 -- What the steps of a call ask, and the answer that each vector is given.
-use Rattle.std.specs.Prelude.{ℕ, ◌+◌, ◌*◌, ◌<◌, ◌≤◌, ◌≡◌, List, ℤ}
+use Rattle.std.specs.Prelude.{ℕ, ◌+◌, ◌*◌, ◌^◌, ◌<◌, ◌≤◌, ◌≡◌, List, length, get_or, ℤ, pos}
+use Rattle.wire.specs.Folding.{folded}
+use Rattle.wire.specs.declared.buffer.Writer.{Writer}
 use Rattle.model.specs.Block.{Answer, vector_of, answer, most_bits}
 use Rattle.block.specs.Reading.{weak_place, share_place, count_at}
 use Rattle.block.specs.declared.Layout.{Layout}
@@ -43,11 +45,12 @@ pub record SearchOneAsked (h : Header) (list : List ℤ) (k : ℕ) (points : Lis
   pub work : key_places ≤ keys
   pub array : bits ≡ most_bits
 
--- What answering it asks: besides, M nodes, and room for an answer
-pub record StepAsked (h : Header) (list : List ℤ) (k at allowed : ℕ) (points : List ℤ) (keys bits room : ℕ) : Type 0 where
-  pub search : SearchOneAsked h list k points keys bits
-  pub least : h.streams ≤ allowed
-  pub buffer : at + (9 + 4 * h.streams * h.width) ≤ room
+-- What writing an answer asks: numbers of four groups at most, and room for them
+pub record CanWrite (w : Writer) (a : Answer) : Type 0 where
+  pub counts : a.count < 2 ^ 28
+  pub labels : a.result.label < 2 ^ 28
+  pub softs : (i : ℕ) → i < length a.result.soft → folded (get_or a.result.soft i (pos 0)) < 2 ^ 28
+  pub buffer : w.at + (9 + 4 * length a.result.soft) ≤ length w.buffer.now
 
 -- What a reply asks
 pub record ReplyAsked (h : Header) (list : List ℤ) (room : ℕ) : Type 0 where

@@ -1,9 +1,11 @@
 // The detector: one block record in, one reply out.
 #![tactic(auto)]
 
-ghost use Rattle.std.specs.Prelude.{◌≡◌, ◌-◌, ◌<◌, ◌≤◌, length};
+ghost use Rattle.std.specs.Prelude.{◌≡◌, ◌≤◌, length};
 ghost use Rattle.wire.specs.Writing.{Wrote};
-ghost use Rattle.model.specs.Block.{vector_of, most_bits};
+ghost use Rattle.wire.specs.Writer.{Writes};
+ghost use Rattle.model.specs.Metric.{all_priors};
+ghost use Rattle.model.specs.Block.{vector_of};
 ghost use Rattle.block.specs.Reading.{most_numbers};
 ghost use Rattle.block.specs.Contents.{owner_at, vector_rows, block_of};
 ghost use Rattle.owners.specs.Spares.{Spares};
@@ -12,7 +14,8 @@ ghost use Rattle.replies.specs.Reply.{answer_numbers, written, reply_of};
 ghost use Rattle.refusals.specs.Filling.{returned, buffer_after};
 ghost use Rattle.detector.specs.Outcome.{outcome, by_room};
 ghost use Rattle.search.specs.Holds.{Holds};
-ghost use Rattle.detector.specs.Steps.{Heads, answer_at, OwnerAsked, ListAsked, SearchOneAsked, StepAsked, ReplyAsked};
+ghost use Rattle.detector.specs.Steps.{Heads, OwnerAsked, ListAsked, SearchOneAsked, ReplyAsked, CanWrite};
+ghost use Rattle.detector.specs.Handed.{Handed, handed, all_handed, Ready, Taken};
 
 use block::Layout;
 use constellation::PLACES;
@@ -20,6 +23,7 @@ use metric::LABEL_BITS;
 use refusals::Refusal;
 use search::Found;
 use tree::Task;
+use wire::Writer;
 
 // What each owner has to spare stands in an array, in the place of its number, which is 1 to 4.
 pub const SPARES: usize = 5;
@@ -34,14 +38,6 @@ pub struct Header {
     pub clip: u32,
     pub weak: u32,
     pub share: u32,
-}
-
-// How far the vectors are answered: the place after the last answer; and before a vector the nodes that it may walk, after it those that it
-// left.
-#[derive(Clone, Copy)]
-struct Step {
-    at: usize,
-    nodes: u32,
 }
 
 // The header of the lent list, which has a layout.
@@ -80,13 +76,10 @@ pub fn set_aside(numbers: &[i32], h: Header) -> [u32; SPARES]
         (block_of h.layout numbers.now).owners (block_of h.layout numbers.now).vectors }
 {
     let more = h.share - h.streams as u32;
-    let n = h.vectors;
     let mut spare = [0u32; SPARES];
-    let mut k = 0;
-    while k < n {
+    for k in 0..h.vectors {
         let owner = owner_of(numbers, h, k);
-        spare[owner] = spare[owner] + more;
-        k += 1;
+        spare[owner] += more;
     }
     spare
 }
@@ -121,37 +114,35 @@ pub fn search_one(
     search::search_vector(task, h.weak, points, &numbers[from..to], keys, soft)
 }
 
-// Vector k, from 0, is searched under the nodes that it may walk, and its answer is written.
-fn answer_one(
-    numbers: &[i32],
-    h: Header,
-    k: usize,
-    step: Step,
-    points: &[i8; PLACES],
-    keys: &mut [u64],
-    soft: &mut [i32; LABEL_BITS],
-    reply: &mut [u8],
-) -> Step
-    requires { StepAsked h numbers.now k step.at step.nodes points.now (length keys.old) (length soft.old) (length reply.old) }
-    ensures { Wrote reply.old step.at (written (answer_numbers (answer_at h.layout numbers.now step.nodes k)))
-        reply.new result.at
-        × (result.nodes ≡ step.nodes - (answer_at h.layout numbers.now step.nodes k).count)
-        × (length soft.new ≡ most_bits) }
+// The priors of vector k, from 0: the last of its numbers, which end where the next vector would begin.
+fn priors_of(numbers: &[i32], h: Header, k: usize) -> &[i32]
+    requires { OwnerAsked h numbers.now k }
+    ensures { result.now ≡ all_priors (vector_rows h.layout numbers.now k) }
 {
-    let allowed = step.nodes;
-    let found = search_one(numbers, h, k, allowed, points, keys, soft);
-    let walked = found.count;
-    let next = replies::write_found(reply, step.at, found.stopped, walked, found.label);
-    let at = replies::write_soft(reply, next, soft, h.streams * h.width);
-    let nodes = allowed - walked;
-    Step { at, nodes }
+    let end = block::vector_start(h.layout, h.streams, h.width, k + 1);
+    &numbers[end - h.streams * h.width..end]
 }
 
-// The whole reply, vector by vector in record order; its length. An owner's vector may walk what the owner has to spare, and M nodes more; what
-// it leaves of both is to spare for the owner's next one.
-fn answer_all(numbers: &[i32], h: Header, reply: &mut [u8]) -> usize
-    requires { ReplyAsked h numbers.now (length reply.old) }
-    ensures { Wrote reply.old 0 (reply_of (block_of h.layout numbers.now)) reply.new result }
+// What is done with the vectors' answers.
+pub trait Sink {
+    // What is handed on can be taken
+    ghost can_take: { Self → Handed → Type 0 };
+
+    // and what taking it leaves.
+    ghost takes: { Self → Handed → Self → Type 0 };
+
+    // Takes what was found of vector k, from 0, its soft values and its priors.
+    fn take(&mut self, k: usize, found: Found, soft: &[i32], priors: &[i32])
+        requires { can_take self.old (handed k found soft.now priors.now) }
+        ensures { takes self.old (handed k found soft.now priors.now) self.new };
+}
+
+// Every vector is searched, in record order, and its answer is handed on. An owner's vector may walk what the owner has to spare, and M nodes
+// more; what it leaves of both is to spare for the owner's next one.
+pub fn for_each_answer<S: Sink>(numbers: &[i32], h: Header, sink: &mut S)
+    requires asked { ListAsked h numbers.now }
+    requires ready { Ready S.can_take S.takes sink.old (all_handed (block_of h.layout numbers.now)) }
+    ensures { Taken S.takes sink.old (all_handed (block_of h.layout numbers.now)) sink.new }
 {
     let mut points = [0i8; PLACES];
     constellation::fill(h.width, &mut points);
@@ -159,20 +150,38 @@ fn answer_all(numbers: &[i32], h: Header, reply: &mut [u8]) -> usize
     let mut keys = [0u64; search::KEYS];
     let mut soft = [0i32; LABEL_BITS];
     let mut spare = set_aside(numbers, h);
-    let mut at = replies::write_head(reply, h.streams, h.width, h.vectors);
     let m = h.streams as u32;
-    let n = h.vectors;
-    let mut k = 0;
-    while k < n {
+    let bits = h.streams * h.width;
+    for k in 0..h.vectors {
         let owner = owner_of(numbers, h, k);
-        let nodes = spare[owner] + m;
-        let step = Step { at, nodes };
-        let next = answer_one(numbers, h, k, step, &points, &mut keys, &mut soft, reply);
-        spare[owner] = next.nodes;
-        at = next.at;
-        k += 1;
+        let allowed = spare[owner] + m;
+        let found = search_one(numbers, h, k, allowed, &points, &mut keys, &mut soft);
+        spare[owner] = allowed - found.count;
+        sink.take(k, found, &soft[..bits], priors_of(numbers, h, k));
     }
-    at
+}
+
+// A reply takes an answer by writing it.
+impl Sink for Writer<'_> {
+    ghost can_take = { λ w x. CanWrite w x.answer };
+
+    ghost takes = { λ w x v. Writes w (written (answer_numbers x.answer)) v };
+
+    fn take(&mut self, _k: usize, found: Found, soft: &[i32], _priors: &[i32]) {
+        replies::write_found(self, found.stopped, found.count, found.label);
+        replies::write_soft(self, soft);
+    }
+}
+
+// The whole reply, vector by vector in record order; its length.
+fn answer_all(numbers: &[i32], h: Header, reply: &mut [u8]) -> usize
+    requires { ReplyAsked h numbers.now (length reply.old) }
+    ensures { Wrote reply.old 0 (reply_of (block_of h.layout numbers.now)) reply.new result }
+{
+    let mut writer = Writer::new(reply);
+    replies::write_head(&mut writer, h.streams, h.width, h.vectors);
+    for_each_answer(numbers, h, &mut writer);
+    writer.at
 }
 
 // The reply to the record that the lent list holds, if the buffer has room for any reply of its size.

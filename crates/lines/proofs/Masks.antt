@@ -1,17 +1,19 @@
 -- The count of ones of the label under the priors' sign and non-zero masks is the number of bits that go against, for any width.
 use Prim.Native.Nat.{ℕ, zero, suc, ◌+◌, ◌*◌, ◌/◌, ◌%◌, ◌^◌, ◌<◌, ◌≤◌}
 use mathlib.Core.Path.{◌≡◌, refl, sym, ◌∙◌, ap, ap₂, subst}
-use mathlib.Core.Bool.{true, false, not, cond}
+use mathlib.Core.Bool.{Bool, true, false, not, cond}
 use mathlib.Core.List.{List, [], ◌∷◌, ◌++◌}
-use native.Mathlib.Nat.{mod-lt, two-pow-succ, not-suc-le-zero}
+use native.Mathlib.Nat.{mod-lt, two-pow-succ}
 use native.Mathlib.Numerals.{add-one}
 use native.Mathlib.Omega.{arith}
-use borrow.Author.Tests.{ltb-true}
-use lib.IntN.{ℤ, pos, negsuc}
+use borrow.Author.Tests.{eqb-true, le-ltb}
+use lib.IntN.{ℤ, pos, negsuc, nat_abs}
 use lib.ListN.{length, get_or, take, length-append}
 use lib.Bits.{bit_and, bit_or, bit_xor, or_shifted, and_block, xor_block, and_mask, and_zero_r, xor_zero_r, xor_mod, and_lt, xor_lt}
 use lib.Count.{ones, ones_cat}
-use lib.Dec.{eqb, T}
+use lib.Dec.{eqb}
+use Rattle.std.specs.Int.{from_bool}
+use Rattle.std.proofs.Common.{SFits, w32, to_z, of_z, to_z-of_z}
 use lib.Pow.{pow_pos, split, shl_exact}
 use lib.Signed.{lt_z}
 use lib.Seq.{take-suc, take_all, length-take-le}
@@ -37,19 +39,20 @@ nonzero_mark_lem (pos zero) = omega arith
 nonzero_mark_lem (pos (suc n)) = omega arith
 nonzero_mark_lem (negsuc n) = omega arith
 
--- What the tests of a prior say of its marks
-pub is_negative : (p : ℤ) → lt_z p (pos 0) ≡ true → negative_mark p ≡ 1
-is_negative (pos n) t = absurd (not-suc-le-zero (ltb-true n 0 t))
-is_negative (negsuc n) t = refl
+-- The tests of a prior, each as what it counts for, are its marks
+pub negative_is : (p : ℤ) → from_bool (lt_z p (pos 0)) ≡ negative_mark p
+negative_is (pos n) = ap from_bool (le-ltb n 0 (omega arith))
+negative_is (negsuc n) = refl
 
-pub not_negative : (p : ℤ) → lt_z p (pos 0) ≡ false → negative_mark p ≡ 0
-not_negative (pos n) t = refl
-not_negative (negsuc n) t = absurd (subst T t tt)
-
-pub is_nonzero : (p : ℤ) → (p ≡ pos 0 → ⊥) → nonzero_mark p ≡ 1
-is_nonzero (pos zero) h = absurd (h refl)
-is_nonzero (pos (suc n)) h = refl
-is_nonzero (negsuc n) h = refl
+pub nonzero_is : (p : ℤ) → SFits w32 p → from_bool (not (eqb (of_z w32 p) 0)) ≡ nonzero_mark p
+nonzero_is p f = go p (eqb (of_z w32 p) 0) (λ e. sym (to_z-of_z {w = w32} f) ∙ ap (to_z w32) (eqb-true (of_z w32 p) 0 e)) refl
+  where
+    go : (q : ℤ) (t : Bool) → (t ≡ true → q ≡ pos 0) → eqb (of_z w32 q) 0 ≡ t → from_bool (not t) ≡ nonzero_mark q
+    go (pos zero) t z e = ap (λ (b : Bool). from_bool (not b)) (sym e)
+    go (pos (suc n)) true z e = absurd (omega (arith, ap nat_abs (z refl)))
+    go (pos (suc n)) false z e = refl
+    go (negsuc n) true z e = absurd (omega (arith, ap nat_abs (z refl)))
+    go (negsuc n) false z e = refl
 
 -- A mask has as many bits as there are priors
 pub mask_below : (f : ℤ → ℕ) → Mark f → (ps : List ℤ) → mask f ps < 2 ^ length ps

@@ -1,36 +1,16 @@
 // The lines of a listing as text: a vector's, the first and the last one.
 #![tactic(auto)]
 
-ghost use Rattle.std.specs.Prelude.{◌≡◌, ◌++◌, ◌+◌, ◌*◌, ◌^◌, ◌<◌, ◌≤◌, length, take};
-ghost use Rattle.wire.specs.Writing.{Wrote};
+ghost use Rattle.std.specs.Prelude.{◌≡◌, ◌++◌, ◌+◌, ◌*◌, ◌^◌, ◌<◌, ◌≤◌, length};
+ghost use Rattle.wire.specs.Writer.{Writes};
 ghost use Rattle.model.specs.Block.{most_bits};
-ghost use Rattle.lines.specs.Against.{against, negative_mark, nonzero_mark};
+ghost use Rattle.lines.specs.Against.{against};
 ghost use Rattle.lines.specs.Text.{line_end, blank, streams_word, bits_word, vectors_word, state_word};
 ghost use Rattle.lines.specs.Text.{decimal_of, field, value_text, soft_text, head_line, vector_line, most_line};
 ghost use Rattle.lines.specs.Asked.{told, ValuesAsked, LineAsked};
 
-use metric::LABEL_BITS;
 use search::Found;
-
-// 1 for a negative prior, else 0.
-fn negative_mark(prior: i32) -> u32
-    ensures { result ≡ negative_mark prior }
-{
-    if prior < 0 {
-        return 1;
-    }
-    0
-}
-
-// 0 for a prior of 0, else 1.
-fn nonzero_mark(prior: i32) -> u32
-    ensures { result ≡ nonzero_mark prior }
-{
-    if prior == 0 {
-        return 0;
-    }
-    1
-}
+use wire::Writer;
 
 // How many bits of the label go against the sign of their prior: the ones of the label under the priors' sign and non-zero masks.
 fn against(priors: &[i32], label: u32) -> u32
@@ -39,192 +19,149 @@ fn against(priors: &[i32], label: u32) -> u32
 {
     let mut negative: u32 = 0;
     let mut nonzero: u32 = 0;
-    let mut i = 0;
-    while i < priors.len() {
-        let prior = priors[i];
-        negative = (negative << 1) | negative_mark(prior);
-        nonzero = (nonzero << 1) | nonzero_mark(prior);
-        i += 1;
+    for prior in priors {
+        negative = (negative << 1) | u32::from(*prior < 0);
+        nonzero = (nonzero << 1) | u32::from(*prior != 0);
     }
-    u32::count_ones((label ^ negative) & nonzero)
+    ((label ^ negative) & nonzero).count_ones()
 }
 
-// Puts some bytes into the text from a place on; the place after them.
-fn write_bytes(text: &mut [u8], at: usize, bytes: &[u8]) -> usize
-    requires { at + length bytes.now ≤ length text.old }
-    ensures { Wrote text.old at bytes.now text.new result }
-{
-    let mut place = at;
-    let mut i = 0;
-    while i < bytes.len() {
-        text[place] = bytes[i];
-        place += 1;
-        i += 1;
-    }
-    place
-}
-
-// A number in decimal digits; the place after them.
-fn write_digits(text: &mut [u8], at: usize, n: u64) -> usize
-    requires { at + length (decimal_of n) ≤ length text.old }
-    ensures { Wrote text.old at (decimal_of n) text.new result }
+// A number in decimal digits.
+fn write_digits(text: &mut Writer<'_>, n: u64)
+    requires { text.old.at + length (decimal_of n) ≤ length text.old.buffer.now }
+    ensures { Writes text.old (decimal_of n) text.new }
 {
     let mut digits = [0u8; 20];
     let k = io::decimal(n, &mut digits);
-    write_bytes(text, at, &digits[..k])
+    text.bytes(&digits[..k]);
 }
 
-// A number of at most ten digits; the place after them.
-fn write_natural(text: &mut [u8], at: usize, n: u32) -> usize
-    requires { at + 10 ≤ length text.old }
-    ensures { (result ≤ at + 10) × Wrote text.old at (decimal_of n) text.new result }
+// A number of at most ten digits.
+fn write_natural(text: &mut Writer<'_>, n: u32)
+    requires { text.old.at + 10 ≤ length text.old.buffer.now }
+    ensures { (text.new.at ≤ text.old.at + 10) × Writes text.old (decimal_of n) text.new }
 {
-    write_digits(text, at, n as u64)
+    write_digits(text, u64::from(n));
 }
 
-// A word and such a number; the place after them.
-fn write_field(text: &mut [u8], at: usize, word: &[u8], n: u32) -> usize
-    requires { at + length word.now + 10 ≤ length text.old }
-    ensures { (result ≤ at + length word.now + 10)
-        × Wrote text.old at (field word.now n) text.new result }
+// A word and such a number.
+fn write_field(text: &mut Writer<'_>, word: &[u8], n: u32)
+    requires { text.old.at + length word.now + 10 ≤ length text.old.buffer.now }
+    ensures { (text.new.at ≤ text.old.at + length word.now + 10)
+        × Writes text.old (field word.now n) text.new }
 {
-    let next = write_bytes(text, at, word);
-    write_natural(text, next, n)
+    text.bytes(word);
+    write_natural(text, n);
 }
 
-// A squared distance, of at most twelve digits, behind a blank; the place after it.
-fn write_distance(text: &mut [u8], at: usize, distance: u64) -> usize
-    requires { (distance < 2 ^ 39) × (at + 13 ≤ length text.old) }
-    ensures { (result ≤ at + 13) × Wrote text.old at (field blank distance) text.new result }
+// A squared distance, of at most twelve digits, behind a blank.
+fn write_distance(text: &mut Writer<'_>, distance: u64)
+    requires { (distance < 2 ^ 39) × (text.old.at + 13 ≤ length text.old.buffer.now) }
+    ensures { (text.new.at ≤ text.old.at + 13) × Writes text.old (field blank distance) text.new }
 {
-    let next = write_bytes(text, at, b" ");
-    write_digits(text, next, distance)
+    text.byte(b' ');
+    write_digits(text, distance);
 }
 
-// A soft value behind a blank; the place after it.
-fn write_value(text: &mut [u8], at: usize, value: i32) -> usize
-    requires { at + 12 ≤ length text.old }
-    ensures { (result ≤ at + 12) × Wrote text.old at (value_text value) text.new result }
+// A soft value behind a blank.
+fn write_value(text: &mut Writer<'_>, value: i32)
+    requires { text.old.at + 12 ≤ length text.old.buffer.now }
+    ensures { (text.new.at ≤ text.old.at + 12) × Writes text.old (value_text value) text.new }
 {
-    let size = integers::magnitude(value as i64) as u32;
+    let size = value.unsigned_abs();
     if value < 0 {
-        return write_field(text, at, b" -", size);
+        write_field(text, b" -", size);
+    } else {
+        write_field(text, b" ", size);
     }
-    write_field(text, at, b" ", size)
 }
 
-// Whether the search was stopped, and the nodes walked; the place after them.
-fn write_state(text: &mut [u8], at: usize, stopped: bool, count: u32) -> usize
-    requires { at + 20 ≤ length text.old }
-    ensures { (result ≤ at + 20) × Wrote text.old at (field (state_word stopped) count) text.new result }
+// Whether the search was stopped, and the nodes walked.
+fn write_state(text: &mut Writer<'_>, stopped: bool, count: u32)
+    requires { text.old.at + 20 ≤ length text.old.buffer.now }
+    ensures { (text.new.at ≤ text.old.at + 20)
+        × Writes text.old (field (state_word stopped) count) text.new }
 {
     if stopped {
-        return write_field(text, at, b" stopped ", count);
+        write_field(text, b" stopped ", count);
+    } else {
+        write_field(text, b" complete ", count);
     }
-    write_field(text, at, b" complete ", count)
 }
 
-// The first n soft values; the place after them.
-fn write_soft(text: &mut [u8], at: usize, soft: &[i32; LABEL_BITS], n: usize) -> usize
-    requires { (n ≤ most_bits) × (length soft.now ≡ most_bits) × (at + 12 * n ≤ length text.old) }
-    ensures { (result ≤ at + 12 * n) × Wrote text.old at (soft_text (take n soft.now)) text.new result }
+// Soft values.
+fn write_soft(text: &mut Writer<'_>, soft: &[i32])
+    requires { (length soft.now ≤ most_bits) × (text.old.at + 12 * length soft.now ≤ length text.old.buffer.now) }
+    ensures { (text.new.at ≤ text.old.at + 12 * length soft.now) × Writes text.old (soft_text soft.now) text.new }
 {
-    let mut place = at;
-    let mut i = 0;
-    while i < n {
-        place = write_value(text, place, soft[i]);
-        i += 1;
+    for value in soft {
+        write_value(text, *value);
     }
-    place
 }
 
-// A line's first part: the number, the state, nodes, label, and how many of its bits go against their priors; the place after it.
-fn write_counts(
-    text: &mut [u8],
-    at: usize,
-    number: u32,
-    stopped: bool,
-    count: u32,
-    label: u32,
-    bits: u32,
-) -> usize
-    requires { at + 52 ≤ length text.old }
-    ensures { (result ≤ at + 52)
-        × Wrote text.old at (decimal_of number ++ field (state_word stopped) count ++ field blank label ++ field blank bits)
-        text.new result }
+// A line's first part: the number, the state, nodes, label, and how many of its bits go against their priors.
+fn write_counts(text: &mut Writer<'_>, number: u32, found: Found, bits: u32)
+    requires { text.old.at + 52 ≤ length text.old.buffer.now }
+    ensures { (text.new.at ≤ text.old.at + 52)
+        × Writes text.old
+        (decimal_of number ++ field (state_word found.stopped) found.count ++ field blank found.label ++ field blank bits)
+        text.new }
 {
-    let state = write_natural(text, at, number);
-    let second = write_state(text, state, stopped, count);
-    let third = write_field(text, second, b" ", label);
-    write_field(text, third, b" ", bits)
+    write_natural(text, number);
+    write_state(text, found.stopped, found.count);
+    write_field(text, b" ", found.label);
+    write_field(text, b" ", bits);
 }
 
-// Its last part: the first n soft values, the squared distance, and the line end; the place after it.
-fn write_values(
-    text: &mut [u8],
-    at: usize,
-    soft: &[i32; LABEL_BITS],
-    n: usize,
-    distance: u64,
-) -> usize
-    requires { ValuesAsked at n (length soft.now) distance (length text.old) }
-    ensures { (result ≤ at + 12 * n + 14)
-        × Wrote text.old at (soft_text (take n soft.now) ++ field blank distance ++ line_end) text.new result }
+// Its last part: the soft values, the squared distance, and the line end.
+fn write_values(text: &mut Writer<'_>, soft: &[i32], distance: u64)
+    requires { ValuesAsked text.old.at (length soft.now) distance (length text.old.buffer.now) }
+    ensures { (text.new.at ≤ text.old.at + 12 * length soft.now + 14)
+        × Writes text.old (soft_text soft.now ++ field blank distance ++ line_end) text.new }
 {
-    let last = write_soft(text, at, soft, n);
-    let end = write_distance(text, last, distance);
-    write_bytes(text, end, b"\n")
+    write_soft(text, soft);
+    write_distance(text, distance);
+    text.byte(b'\n');
 }
 
-// The line of a vector with a number, from what the search found of it and its priors, which are as many as its soft values; the place after it.
-pub fn write_line(
-    text: &mut [u8],
-    at: usize,
-    number: u32,
-    found: Found,
-    soft: &[i32; LABEL_BITS],
-    priors: &[i32],
-) -> usize
-    requires { LineAsked at (length soft.now) (length priors.now) found.distance (length text.old) }
-    ensures { (result ≤ at + most_line)
-        × Wrote text.old at
-        (vector_line number (told found (take (length priors.now) soft.now)) priors.now found.distance)
-        text.new result }
+// The line of a vector with a number, from what the search found of it, its soft values and its priors.
+pub fn write_line(text: &mut Writer<'_>, number: u32, found: Found, soft: &[i32], priors: &[i32])
+    requires { LineAsked text.old.at (length soft.now) (length priors.now) found.distance (length text.old.buffer.now) }
+    ensures { (text.new.at ≤ text.old.at + most_line)
+        × Writes text.old (vector_line number (told found soft.now) priors.now found.distance) text.new }
 {
-    let label = found.label;
-    let bits = against(priors, label);
-    let values = write_counts(text, at, number, found.stopped, found.count, label, bits);
-    write_values(text, values, soft, priors.len(), found.distance)
+    write_counts(text, number, found, against(priors, found.label));
+    write_values(text, soft, found.distance);
 }
 
-// The first line's first part: M, Q and N; the place after it.
-fn write_sizes(text: &mut [u8], m: u32, q: u32, n: u32) -> usize
-    requires { 53 ≤ length text.old }
-    ensures { (result ≤ 53)
-        × Wrote text.old 0 (field streams_word m ++ field bits_word q ++ field vectors_word n) text.new result }
+// The first line's first part: M, Q and N.
+fn write_sizes(text: &mut Writer<'_>, m: u32, q: u32, n: u32)
+    requires { text.old.at + 53 ≤ length text.old.buffer.now }
+    ensures { (text.new.at ≤ text.old.at + 53)
+        × Writes text.old (field streams_word m ++ field bits_word q ++ field vectors_word n) text.new }
 {
-    let second = write_field(text, 0, b"streams ", m);
-    let third = write_field(text, second, b" bits ", q);
-    write_field(text, third, b" vectors ", n)
+    write_field(text, b"streams ", m);
+    write_field(text, b" bits ", q);
+    write_field(text, b" vectors ", n);
 }
 
-// The first line: M, Q, N, C and D; the place after it.
-pub fn write_head(text: &mut [u8], m: u32, q: u32, n: u32, clip: u32, share: u32) -> usize
-    requires { 87 ≤ length text.old }
-    ensures { (result ≤ 87) × Wrote text.old 0 (head_line m q n clip share) text.new result }
+// The first line: M, Q, N, C and D.
+pub fn write_head(text: &mut Writer<'_>, m: u32, q: u32, n: u32, clip: u32, share: u32)
+    requires { text.old.at + 87 ≤ length text.old.buffer.now }
+    ensures { (text.new.at ≤ text.old.at + 87) × Writes text.old (head_line m q n clip share) text.new }
 {
-    let fourth = write_sizes(text, m, q, n);
-    let fifth = write_field(text, fourth, b" clip ", clip);
-    let end = write_field(text, fifth, b" share ", share);
-    write_bytes(text, end, b"\n")
+    write_sizes(text, m, q, n);
+    write_field(text, b" clip ", clip);
+    write_field(text, b" share ", share);
+    text.byte(b'\n');
 }
 
-// A last line, or the only one: a word and a number; the place after it.
-pub fn write_last(text: &mut [u8], at: usize, word: &[u8], n: u32) -> usize
-    requires { at + length word.now + 11 ≤ length text.old }
-    ensures { (result ≤ at + length word.now + 11)
-        × Wrote text.old at (field word.now n ++ line_end) text.new result }
+// A last line, or the only one: a word and a number.
+pub fn write_last(text: &mut Writer<'_>, word: &[u8], n: u32)
+    requires { text.old.at + length word.now + 11 ≤ length text.old.buffer.now }
+    ensures { (text.new.at ≤ text.old.at + length word.now + 11)
+        × Writes text.old (field word.now n ++ line_end) text.new }
 {
-    let end = write_field(text, at, word, n);
-    write_bytes(text, end, b"\n")
+    write_field(text, word, n);
+    text.byte(b'\n');
 }

@@ -1,136 +1,99 @@
--- What is left to list before vector k, from 0.
-use Prim.Native.Nat.{ℕ, ◌+◌, ◌*◌, ◌<◌, ◌≤◌}
-use mathlib.Core.Path.{◌≡◌, refl, sym, ◌∙◌, ap}
-use mathlib.Core.List.{List, ◌++◌}
-use native.Mathlib.Numerals.{add-one}
-use native.Mathlib.Omega.{arith}
-use lib.IntN.{ℤ}
-use lib.ListN.{length, get_or, set}
-use Rattle.model.specs.Block.{Answer, total_count, most_bits}
+-- The lines of a block's vectors, one after the other: each can be written, and all of them are the listing's.
+use Rattle.std.proofs.Common.{ℕ, suc, ◌+◌, ◌*◌, ◌^◌, ◌<◌, ◌≤◌, ◌≡◌, refl, sym, ◌∙◌, ap, subst, List, [], ◌∷◌, ◌++◌, ℤ, length, length-append, add-one, arith}
+use native.Mathlib.Nat.{suc-mul}
+use Rattle.model.specs.Metric.{Row, all_priors}
+use Rattle.model.specs.Block.{Block, Answer, vector_of, total_count, Every, RowsInRange, VectorInRange, InRange, most_bits, most_vectors, winning_distance}
 use Rattle.model.proofs.Bounds.{total_small}
+use Rattle.model.proofs.Parts.{distance_small}
 use Rattle.owners.specs.Owners.{shared_answers}
-use Rattle.owners.specs.Spares.{Spares}
+use Rattle.owners.proofs.Owners.{answers_many}
 use Rattle.owners.proofs.Demand.{shared_demand3}
 use Rattle.block.specs.declared.Layout.{Layout}
 use Rattle.block.specs.Reading.{share_place, count_at}
-use Rattle.block.specs.Contents.{owner_at, block_of}
+use Rattle.block.specs.Contents.{block_of}
 use Rattle.block.proofs.Places.{vectors_count}
-use Rattle.constellation.specs.Points.{Points}
-use Rattle.search.specs.Nodes.{key_places}
-use Rattle.detector.specs.Steps.{Heads, answer_at}
-use Rattle.detector.specs.declared.Header.{Header}
-use Rattle.detector.proofs.Held.{streams_are, few_vectors}
-use Rattle.detector.proofs.Shares.{vectors_from, vectors_next, vectors_none, Shares, shares_first, shares_last, later, rest_next, shares_next}
-use Rattle.replies.proofs.Steps.{wrote_length, Left, left_all, left_more, left_none}
+use Rattle.wire.specs.Writer.{Writes}
+use Rattle.wire.proofs.Runs.{writes_none, writes_then}
+use Rattle.replies.proofs.Replies.{OfVector, of_vectors, soft_count, bits_are}
+use Rattle.detector.specs.Handed.{handed_from, all_handed, Ready, Taken}
 use Rattle.lines.specs.Text.{line_end, total_word, field, head_line, lines_from, total_line, block_text, most_line}
-use Rattle.listing.specs.Steps.{line_at, NumberedAsked, Numbered, VectorsAsked, VectorsListed}
-use Rattle.listing.specs.declared.Progress.{Progress}
+use Rattle.wire.specs.declared.buffer.Writer.{Writer}
+use Rattle.listing.specs.Steps.{CanList, Lists, VectorsListed}
+use Rattle.listing.specs.declared.Listed.{Listed}
 
--- The lines of the vectors from the k-th on, with their answers
-abbrev pub lines_left : Layout → List ℤ → ℕ → List Answer → List ℕ
-lines_left o list k rest = lines_from (block_of o list) (k + 1) (vectors_from o list k) rest
+-- A vector in range has as many priors as its label bits
+priors_many : (q : ℕ) (rows : List Row) → RowsInRange q rows → length (all_priors rows) ≡ length rows * q
+unfolding all_priors
+priors_many q [] h = omega arith
+priors_many q (r ∷ rows) h = omega (arith, h.0.bits, priors_many q rows h.1, length-append r.priors (all_priors rows), suc-mul (length rows) q)
 
--- Before vector k: room for each line so far, what the owners have to spare for the answers to come, the nodes of what is listed and what is
--- left, and what is left to write
-pub record Listing (h : Header) (list : List ℤ) (text : List ℕ) (from n : ℕ) (now : List ℕ) (bits : ℕ) (spare : List ℕ) (at total k : ℕ) : Type 0 where
-  pub all : n ≡ h.vectors
-  pub inside : k ≤ n
-  pub array : bits ≡ most_bits
-  pub same : length now ≡ length text
-  pub room : at ≤ from + k * most_line
-  pub rest : List Answer
-  pub shares : Shares h.layout list k spare rest
-  pub nodes : total + total_count rest ≡ total_count (shared_answers (block_of h.layout list))
-  pub left : Left text from (lines_left h.layout list 0 (shared_answers (block_of h.layout list))) now at (lines_left h.layout list k rest)
+module _ (b : Block) (ranged : InRange b) where
+  soft_few : (a : Answer) → OfVector b a → length a.result.soft ≤ most_bits
+  soft_few a o =
+      subst (λ (x : Answer). length x.result.soft ≤ most_bits) o.is
+      (omega (arith, soft_count (vector_of b o.rows) b.weak o.allowed, bits_are b o.vector, ranged.label))
 
-module _ {h : Header} {list : List ℤ} {text : List ℕ} {from : ℕ} (headed : Heads h list)
-    (asked : VectorsAsked h.layout list from (length text)) where
-  -- Before the first
-  pub listing_none : {n bits : ℕ} {spare : List ℕ} → n ≡ h.vectors → bits ≡ most_bits → Spares (block_of h.layout list) spare (λ o. 0) (block_of h.layout list).owners (block_of h.layout list).vectors
-      → Listing h list text from n text bits spare from 0 0
-  listing_none {spare = spare} e array spares = record {
-    all = e;
-    inside = omega arith;
-    array = array;
-    same = refl;
-    room = omega arith;
-    rest = shared_answers (block_of h.layout list);
-    shares = shares_first h.layout list spare spares;
-    nodes = omega arith;
-    left = left_all;
+  -- A vector's line is written where there is room for any
+  can_list : (s : Listed) (k : ℕ) (rows : List Row) (a : Answer) → k < most_vectors → VectorInRange b.streams b.width rows → OfVector b a
+      → s.total + a.count < 2 ^ 32 → s.text.now.at + most_line ≤ length s.text.now.buffer.now
+      → CanList s (record { place = k; answer = a; distance = winning_distance (vector_of b rows) a; priors = all_priors rows })
+  can_list s k rows a inside v o sum room = record {
+    inside = inside;
+    few = omega (arith, priors_many b.width rows v.ranged, ap (λ (m : ℕ). m * b.width) v.streams, ranged.label);
+    values_few = soft_few a o;
+    digits = distance_small b ranged rows v.ranged (omega (arith, v.streams)) _;
+    sum = sum;
+    buffer = room;
   }
 
-  module _ {n : ℕ} {now : List ℕ} {bits : ℕ} {spare : List ℕ} {at total k : ℕ} (l : Listing h list text from n now bits spare at total k) where
-    module _ (more : k < n) where
-      pub vector_inside : k < count_at 2 list
-      vector_inside = omega (arith, l.all, headed.vectors_is)
+  -- So they can all be written, one after the other
+  ready : (k : ℕ) (vs : List (List Row)) (found : List Answer) → Every (VectorInRange b.streams b.width) vs → Every (OfVector b) found
+      → k + length vs ≤ most_vectors → (s : Listed) → s.total + total_count found < 2 ^ 32
+      → s.text.now.at + length vs * most_line ≤ length s.text.now.buffer.now → Ready CanList Lists s (handed_from b k vs found)
+  unfolding handed_from Ready total_count
+  ready k [] found vectors answers few s sum room = tt
+  ready k (rows ∷ later) [] vectors answers few s sum room = tt
+  ready k (rows ∷ later) (a ∷ found) vectors answers few s sum room = (
+    can_list s k rows a (omega arith) vectors.0 answers.0 (omega arith) (omega arith),
+    λ t h. ready (suc k) later found vectors.1 answers.1 (omega arith) t (omega (arith, h.total_is)) (omega (arith, h.room, h.line.size)),
+  )
 
-      abbrev owner : ℕ
-      owner = owner_at h.layout list k
+  pub all_ready : (s : Listed) → s.total ≡ 0 → s.text.now.at + most_vectors * most_line ≤ length s.text.now.buffer.now → Ready CanList Lists s (all_handed b)
+  all_ready s none room =
+      ready 0 b.vectors (shared_answers b) ranged.each (of_vectors b ranged) (omega (arith, ranged.vectors)) s
+      (omega (arith, (shared_demand3 b ranged).sum, total_small b ranged)) (omega (arith, ranged.vectors))
 
-      -- How vector k is listed: from where, after how many nodes, under how many
-      abbrev pub step : Progress
-      step = record { at = at; total = total; nodes = get_or spare owner 0 + h.streams }
+-- Lines of vectors with these answers were written, and their nodes counted
+pub record Written (b : Block) (number : ℕ) (vs : List (List Row)) (found : List Answer) (s u : Listed) : Type 0 where
+  pub same_text : u.text.ghost_name ≡ s.text.ghost_name
+  pub lines : Writes s.text.now (lines_from b number vs found) u.text.now
+  pub room : u.text.now.at ≤ s.text.now.at + length vs * most_line
+  pub total_is : u.total ≡ s.total + total_count found
 
-      abbrev found : Answer
-      found = answer_at h.layout list step.nodes k
+taken : (b : Block) (k : ℕ) (vs : List (List Row)) (found : List Answer) → length found ≡ length vs → (s u : Listed)
+    → Taken Lists s (handed_from b k vs found) u → Written b (suc k) vs found s u
+unfolding handed_from Taken lines_from total_count
+taken b k [] [] e s u h = subst (Written b (suc k) [] [] s) (sym h) (record { same_text = refl; lines = writes_none; room = omega arith; total_is = omega arith })
+taken b k [] (a ∷ found) e s u h = absurd (omega arith)
+taken b k (rows ∷ later) [] e s u h = absurd (omega arith)
+taken b k (rows ∷ later) (a ∷ found) e s u h =
+    let l = h.1.0 in
+    let w = taken b (suc k) later found (omega arith) h.0 u h.1.1 in
+    record {
+      same_text = w.same_text ∙ l.same_text;
+      lines = writes_then (rw add-one at l.line) w.lines;
+      room = omega (arith, l.room, w.room);
+      total_is = omega (arith, l.total_is, w.total_is);
+    }
 
-      abbrev others : List Answer
-      others = later asked.held.ranged vector_inside l.shares (streams_are headed)
+pub all_taken : (b : Block) → InRange b → (s u : Listed) → Taken Lists s (all_handed b) u → Written b 1 b.vectors (shared_answers b) s u
+all_taken b ranged s u h = taken b 0 b.vectors (shared_answers b) (answers_many b ranged.owned) s u h
 
-      counted : total_count l.rest ≡ found.count + total_count others
-      unfolding total_count
-      counted = ap total_count (rest_next asked.held.ranged vector_inside l.shares (streams_are headed))
-
-      -- What vector k asks
-      pub listing_asked : {points : List ℤ} {keys : ℕ} → Points h.width points → key_places ≤ keys
-          → NumberedAsked h list k step points keys bits (length now)
-      listing_asked pointed work = record {
-        search = record { held = asked.held; headed = headed; inside = omega (arith, l.all); pointed = pointed; work = work; array = l.array };
-        least = omega arith;
-        sum =
-            omega (
-              arith,
-              counted,
-              l.nodes,
-              (shared_demand3 (block_of h.layout list) asked.held.ranged).sum,
-              total_small (block_of h.layout list) asked.held.ranged,
-            );
-        buffer = omega (arith, l.room, l.same, l.all, asked.buffer, few_vectors asked.held headed);
-      }
-
-      lines_more : lines_left h.layout list k l.rest ≡ line_at h.layout list step.nodes k ++ lines_left h.layout list (k + 1) others
-      unfolding lines_from
-      lines_more =
-          ap (lines_left h.layout list k) (rest_next asked.held.ranged vector_inside l.shares (streams_are headed))
-          ∙ rw (vectors_next h.layout list k vector_inside, add-one (k + 1))
-
-      -- After it
-      pub listing_more : {after : List ℕ} {bits' : ℕ} {next : Progress} → bits' ≡ most_bits → Numbered now h.layout list k step after next
-          → Listing h list text from n after bits' (set spare owner next.nodes) next.at next.total (k + 1)
-      listing_more array w = record {
-        all = l.all;
-        inside = omega arith;
-        array = array;
-        same = wrote_length w.line ∙ l.same;
-        room = omega (arith, l.room, w.room);
-        rest = others;
-        shares = rw w.left_is (shares_next asked.held.ranged vector_inside l.shares (streams_are headed));
-        nodes = omega (arith, counted, l.nodes, w.total_is);
-        left = left_more l.left lines_more w.line;
-      }
-
-    -- After the last
-    pub listing_all : n ≤ k → VectorsListed text h.layout list from now (record { at = at; total = total })
-    unfolding lines_from total_count
-    listing_all none =
-        let last : count_at 2 list ≤ k = omega (arith, l.all, headed.vectors_is) in
-        let done = shares_last l.shares last in
-        record {
-          lines = left_none l.left (rw (vectors_none h.layout list k last));
-          room = omega (arith, l.room, l.inside, l.all, few_vectors asked.held headed);
-          total_is = omega (arith, ap total_count done, l.nodes);
-        }
+pub all_listed : (b : Block) → InRange b → {s u : Listed} {after : Writer} → s.total ≡ 0 → Written b 1 b.vectors (shared_answers b) s u → after ≡ u.text.now
+    → VectorsListed b s.text.now after u.total
+all_listed b ranged {s} {u} none w e =
+    subst (λ (t : Writer). VectorsListed b s.text.now t u.total) (sym e)
+    (record { lines = w.lines; room = omega (arith, w.room, ranged.vectors); total_is = omega (arith, w.total_is) })
 
 -- The parts of a block's listing, of what was counted
 pub block_parts : (o : Layout) (list : List ℤ) {m q n clip share total : ℕ} → m ≡ count_at 0 list → q ≡ count_at 1 list → n ≡ count_at 2 list

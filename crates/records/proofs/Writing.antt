@@ -1,15 +1,16 @@
--- A list that passed its check is written number by number: what is left of it, put at the present place, is all of it put behind the opening.
+-- A list that passed its check is written number by number.
 use Prim.Native.Nat.{ℕ, ◌+◌, ◌≤◌, ◌<◌}
-use mathlib.Core.Path.{◌≡◌, refl, sym, ◌∙◌, ap}
+use mathlib.Core.Path.{◌≡◌, refl, ◌∙◌, ap}
 use mathlib.Core.Bool.{Bool, true, false, cond}
-use mathlib.Core.List.{List, [], ◌∷◌, ◌++◌}
+use mathlib.Core.List.{List, [], ◌∷◌}
 use native.Mathlib.Omega.{arith}
 use lib.ListN.{length, get_or, length-append}
 use lib.IntN.{ℤ, pos}
-use Rattle.wire.specs.Writing.{bytes_of, put}
-use Rattle.wire.proofs.Writing.{put_length, put_nil, put_append}
+use Rattle.wire.specs.Writing.{bytes_of}
+use Rattle.wire.specs.declared.buffer.Writer.{Writer}
+use Rattle.wire.proofs.Runs.{Left}
 use Rattle.refusals.specs.Table.{allowed, refusal_of}
-use Rattle.block.specs.Reading.{opening, Read}
+use Rattle.block.specs.Reading.{Read}
 use Rattle.block.specs.Conditions.{called_for}
 use Rattle.block.specs.declared.Layout.{Layout}
 use Rattle.refusals.specs.declared.Kind.{Kind}
@@ -19,10 +20,9 @@ use Rattle.refusals.specs.declared.Refusal.{Refusal}
 use Rattle.refusals.specs.declared.Refusal.TheVariants.{Buffer}
 use Rattle.refusals.proofs.Fillings.{fitted_short, fitted_enough}
 use Rattle.block.proofs.Parts.{AllAllowed}
-use Rattle.block.proofs.Openings.{four}
 use Rattle.records.specs.Writing.{Verdict, fine, turned, checked, plain_of, record_of, writing_in}
 use Rattle.records.specs.Steps.{kind_at, as_read}
-use Rattle.records.proofs.Checking.{bytes_from, bytes_more, bytes_none}
+use Rattle.records.proofs.Checking.{bytes_from, bytes_more}
 
 -- A verdict is one or the other
 pub not_turned : {r : _} → turned r ≡ fine → ⊥
@@ -49,42 +49,19 @@ allowed_fine [] (z ∷ zs) a = absurd a
 allowed_fine (k ∷ ks) [] a = absurd a
 allowed_fine (k ∷ ks) (z ∷ zs) a = rw a.0 (allowed_fine ks zs a.1)
 
--- The buffer l behind the opening, after i numbers
-pub record Putting (o : Layout) (numbers : List ℤ) (l : List ℕ) (i at : ℕ) (after : List ℕ) : Type 0 where
-  pub ends : 4 + length (bytes_from o numbers 0) ≡ at + length (bytes_from o numbers i)
-  pub leaves : put l 4 (bytes_from o numbers 0) ≡ put after at (bytes_from o numbers i)
-  pub kept : length after ≡ length l
-
-pub putting_start : (o : Layout) (numbers : List ℤ) (l : List ℕ) → Putting o numbers l 0 4 l
-putting_start o numbers l = record { ends = refl; leaves = refl; kept = refl }
-
-module _ {o : Layout} {numbers : List ℤ} {l : List ℕ} {i at : ℕ} {after : List ℕ} (p : Putting o numbers l i at after)
-    (called : i < length (called_for o numbers)) (inside : i < length numbers) where
-  abbrev bytes : List ℕ
-  bytes = bytes_of (plain_of (kind_at o numbers i) (get_or numbers i (pos 0)))
-
-  split : bytes_from o numbers i ≡ bytes ++ bytes_from o numbers (i + 1)
-  split = bytes_more o numbers i called inside
-
-  -- The next number has room
-  pub putting_room : 4 + length (bytes_from o numbers 0) ≤ length l → at + length bytes ≤ length after
-  putting_room room = omega (arith, p.ends, p.kept, ap length split, length-append bytes (bytes_from o numbers (i + 1)))
-
-  -- and is put there
-  pub putting_more : {next : ℕ} {then : List ℕ} → (next ≡ at + length bytes) × (then ≡ put after at bytes) → Putting o numbers l (i + 1) next then
-  putting_more w = record {
-    ends = omega (arith, p.ends, w.0, ap length split, length-append bytes (bytes_from o numbers (i + 1)));
-    leaves = p.leaves ∙ ap (put after at) split ∙ rw (put_append bytes (bytes_from o numbers (i + 1)) after at, w.0, w.1);
-    kept = ap length w.1 ∙ put_length after at bytes ∙ p.kept;
-  }
-
--- All numbers put behind the opening are the record
-pub putting_all : (o : Layout) (numbers : List ℤ) (before l : List ℕ) (i at : ℕ) (after : List ℕ) → l ≡ put before 0 (opening o) → Putting o numbers l i at after
-    → length (called_for o numbers) ≤ i → after ≡ put before 0 (record_of o numbers)
-unfolding record_of
-putting_all o numbers before l i at after e p h =
-    sym (put_append (opening o) (bytes_from o numbers 0) before 0
-    ∙ rw (sym e, four o) (p.leaves ∙ rw (bytes_none o numbers i h) (put_nil after at)))
+-- The next of the numbers that are left has room
+pub number_room : (o : Layout) (numbers : List ℤ) (i : ℕ) → i < length (called_for o numbers) → i < length numbers → {w v : Writer}
+    → Left w (bytes_from o numbers 0) v (bytes_from o numbers i) → w.at + length (bytes_from o numbers 0) ≤ length w.buffer.now
+    → v.at + length (bytes_of (plain_of (kind_at o numbers i) (get_or numbers i (pos 0)))) ≤ length v.buffer.now
+number_room o numbers i called inside left room =
+    let bytes = bytes_of (plain_of (kind_at o numbers i) (get_or numbers i (pos 0))) in
+    omega (
+      arith,
+      left.ends,
+      left.size,
+      ap length (bytes_more o numbers i called inside),
+      length-append bytes (bytes_from o numbers (i + 1)),
+    )
 
 -- A list that passed, with its record's length
 pub record Fine (o : Layout) (numbers : List ℤ) (size : ℕ) : Type 0 where

@@ -15,6 +15,7 @@ ghost use Rattle.records.specs.Steps.{kind_at, Asked, FirstAllowed, Called, Size
 
 use block::Layout;
 use refusals::{Kind, Refusal};
+use wire::Writer;
 
 // A list of whole numbers, and the layout of the record that they are taken for.
 #[derive(Clone, Copy)]
@@ -194,13 +195,10 @@ fn write_all(layout: Layout, numbers: &[i32], record: &mut [u8])
     ensures { «record».new ≡ put «record».old 0 (record_of layout numbers.now) }
 {
     let list = NumberList { layout, numbers };
-    wire::write_opening(record, layout.opening());
-    let count = numbers.len();
-    let mut at = 4;
-    let mut i = 0;
-    while i < count {
-        at = wire::write_number(record, at, plain(list.kind_at(i), numbers[i]));
-        i += 1;
+    let mut writer = Writer::new(record);
+    writer.opening(layout.opening());
+    for i in 0..numbers.len() {
+        writer.number(plain(list.kind_at(i), numbers[i]));
     }
 }
 

@@ -45,7 +45,7 @@ unfolding written
 written_one n ns h = omega (arith, length-append (bytes_of n) (written ns), ap length (bytes_of-one n h))
 
 -- At most four for each
-written_most : (ns : List ℕ) → length (written ns) ≤ 4 * length ns
+pub written_most : (ns : List ℕ) → length (written ns) ≤ 4 * length ns
 unfolding written
 written_most [] = zero-le
 written_most (n ∷ ns) = omega (arith, length-append (bytes_of n) (written ns), bytes_of-most n, written_most ns)

@@ -1,77 +1,57 @@
--- A reply written step by step: one number after the other, one answer after the other.
-use Prim.Native.Nat.{ℕ, suc, ◌+◌, ◌-◌, ◌≤◌, ◌<◌}
-use mathlib.Core.Path.{◌≡◌, refl, sym, ◌∙◌, ap}
-use mathlib.Core.List.{List, [], ◌∷◌, ◌++◌, map}
-use native.Mathlib.Numerals.{add-one}
-use native.Mathlib.Omega.{arith}
-use lib.IntN.{ℤ, pos}
-use lib.ListN.{length, get_or, take, drop, length-append}
-use lib.Seq.{drop-cons}
-use Rattle.wire.specs.Writing.{bytes_of, put, Wrote}
+-- A reply written step by step: one number after the other.
+use Rattle.std.proofs.Common.{ℕ, refl, Bool, true, false, ◌+◌, ◌*◌, ◌<◌, ◌≤◌, ◌≡◌, ap, List, [], ◌∷◌, ◌++◌, map, ℤ, pos, length, get_or, drop, add-one, drop-cons, arith}
+use Rattle.std.specs.Int.{from_bool}
+use lib.ListN.{length-map, length-append}
+use Rattle.wire.specs.Writing.{bytes_of}
 use Rattle.wire.specs.Folding.{folded}
-use Rattle.wire.proofs.Writing.{put_length, put_nil, put_append}
-use Rattle.replies.specs.Reply.{written}
+use Rattle.wire.specs.Writer.{Writes}
+use Rattle.wire.specs.declared.buffer.Writer.{Writer}
+use Rattle.wire.proofs.Runs.{writes_none, writes_then, Left}
+use Rattle.wire.proofs.Writing.{bytes_of-one, bytes_of-most}
+use Rattle.replies.specs.Reply.{written, mark_of}
+use Rattle.replies.proofs.Replies.{written_most}
 
--- A buffer keeps its length
-pub wrote_length : {l : List ℕ} {at : ℕ} {bs after : List ℕ} {next : ℕ} → Wrote l at bs after next → length after ≡ length l
-wrote_length {l} {at} {bs} w = ap length w.leaves ∙ put_length l at bs
-
--- One part is written and then another
-pub wrote_both : {l : List ℕ} {at : ℕ} {all bs cs mid end : List ℕ} {next last : ℕ} → all ≡ bs ++ cs → Wrote l at bs mid next
-    → Wrote mid next cs end last → Wrote l at all end last
-wrote_both {l} {at} {all} {bs} {cs} e w u = record {
-  ends = omega (arith, w.ends, u.ends, ap length e, length-append bs cs);
-  leaves = u.leaves ∙ rw (w.leaves, w.ends, e, put_append bs cs l at);
-}
-
--- A number and then others, or none
-pub wrote_number : (n : ℕ) (ns : List ℕ) {l mid end : List ℕ} {at next last : ℕ}
-    → (next ≡ at + length (bytes_of n)) × (mid ≡ put l at (bytes_of n)) → Wrote mid next (written ns) end last
-    → Wrote l at (written (n ∷ ns)) end last
+-- No number
+pub writes_numbers_none : {w : Writer} → Writes w (written []) w
 unfolding written
-wrote_number n ns w u = wrote_both refl (record { ends = w.0; leaves = w.1 }) u
+writes_numbers_none = writes_none
 
-pub wrote_none : {l : List ℕ} {at : ℕ} → Wrote l at (written []) l at
+-- A number and then others
+pub writes_number : (n : ℕ) (ns : List ℕ) {w v u : Writer} → Writes w (bytes_of n) v → Writes v (written ns) u → Writes w (written (n ∷ ns)) u
 unfolding written
-wrote_none {l} {at} = record { ends = omega arith; leaves = sym (put_nil l at) }
+writes_number n ns h k = writes_then h k
 
--- What is left to write: all of it put at the first place is the rest put at the present one
-pub record Left (l : List ℕ) (at : ℕ) (all now : List ℕ) (place : ℕ) (rest : List ℕ) : Type 0 where
-  pub ends : at + length all ≡ place + length rest
-  pub leaves : put l at all ≡ put now place rest
+-- The soft values from the i-th on, folded
+abbrev pub soft_from : List ℤ → ℕ → List ℕ
+soft_from soft i = map folded (drop i soft)
 
-pub left_all : {l : List ℕ} {at : ℕ} {all : List ℕ} → Left l at all l at all
-left_all = record { ends = refl; leaves = refl }
-
-module _ {l : List ℕ} {at : ℕ} {all now : List ℕ} {place : ℕ} {todo : List ℕ} (left : Left l at all now place todo) where
-  -- Some of it is written
-  pub left_more : {bs rest after : List ℕ} {next : ℕ} → todo ≡ bs ++ rest → Wrote now place bs after next → Left l at all after next rest
-  left_more {bs} {rest} e w = record {
-    ends = omega (arith, left.ends, w.ends, ap length e, length-append bs rest);
-    leaves = left.leaves ∙ rw (e, put_append bs rest now place, w.leaves, w.ends);
-  }
-
-  -- Nothing is left
-  pub left_none : todo ≡ [] → Wrote l at all now place
-  left_none e = record { ends = omega (arith, left.ends, ap length e); leaves = sym (left.leaves ∙ rw (e, put_nil now place)) }
-
--- The soft values from the i-th of n on, folded
-abbrev pub soft_from : List ℤ → ℕ → ℕ → List ℕ
-soft_from soft n i = map folded (take (n - i) (drop i soft))
-
-module _ (soft : List ℤ) (n i : ℕ) {l : List ℕ} {at : ℕ} {all now : List ℕ} {place : ℕ}
-    (left : Left l at all now place (written (soft_from soft n i))) where
-  -- The i-th is written
-  pub left_soft : i < n → i < length soft → {x : ℕ} {after : List ℕ} {next : ℕ} → x ≡ folded (get_or soft i (pos 0))
-      → (next ≡ place + length (bytes_of x)) × (after ≡ put now place (bytes_of x))
-      → Left l at all after next (written (soft_from soft n (i + 1)))
+module _ (soft : List ℤ) (i : ℕ) where
+  -- The i-th and those behind it
+  pub soft_more : i < length soft → written (soft_from soft i) ≡ bytes_of (folded (get_or soft i (pos 0))) ++ written (soft_from soft (i + 1))
   unfolding written
-  left_soft h k {x} e w =
-      let c : n - i ≡ suc (n - (i + 1)) = omega arith in
-      let same : soft_from soft n i ≡ x ∷ soft_from soft n (i + 1) = rw (e, c, drop-cons soft i (pos 0) k, add-one) in
-      left_more left (ap written same) (record { ends = w.0; leaves = w.1 })
+  soft_more h = rw (drop-cons soft i (pos 0), add-one)
 
-  -- All are written
-  pub soft_all : n ≤ i → Wrote l at all now place
-  unfolding written
-  soft_all h = let e : n - i ≡ 0 = omega arith in left_none left (rw e)
+  -- There is room for it, where there is for four groups of each
+  pub soft_room : i < length soft → {w v : Writer} {room : ℕ} → Left w (written (soft_from soft 0)) v (written (soft_from soft i))
+      → w.at + 4 * length soft ≤ room → v.at + length (bytes_of (folded (get_or soft i (pos 0)))) ≤ room
+  soft_room h {w} {v} left k =
+      omega (
+        arith,
+        left.ends,
+        written_most (soft_from soft 0),
+        length-map soft folded,
+        ap length (soft_more h),
+        length-append (bytes_of (folded (get_or soft i (pos 0)))) (written (soft_from soft (i + 1))),
+      )
+
+-- A number of one group, and of at most four
+pub one_byte : (n : ℕ) → n < 128 → length (bytes_of n) ≡ 1
+one_byte n h = ap length (bytes_of-one n h)
+
+pub four_bytes : (n : ℕ) → length (bytes_of n) ≤ 4
+four_bytes n = bytes_of-most n
+
+-- A mark is what its `bool` counts for
+pub mark_is : (b : Bool) → from_bool b ≡ mark_of b
+mark_is false = refl
+mark_is true = refl

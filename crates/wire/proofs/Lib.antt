@@ -1,4 +1,5 @@
 pub mod Folding
 pub mod Writing
+pub mod Runs
 pub mod Reading
 pub mod RoundTrip

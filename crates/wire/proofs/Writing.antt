@@ -9,7 +9,7 @@ use native.Mathlib.Omega.{arith}
 use borrow.Author.Tests.{ltb-true, lt-ltb, le-ltb}
 use lib.Bits.{bit_and, bit_or, and_mask, or_shifted_r}
 use lib.Dec.{ltb, lit<}
-use lib.ListN.{length, get_or, take, drop, set}
+use lib.ListN.{length, take, drop, set}
 use lib.Pow.{pow-add, pow_pos}
 use lib.Seq.{length-sets, sets-eq}
 use Rattle.wire.specs.Reading.{Bytes}
@@ -147,17 +147,6 @@ put_append [] cs l at = let e : at + 0 ≡ at = omega arith in rw e
 put_append (b ∷ bs) cs l at =
     let e : at + suc (length bs) ≡ suc at + length bs = omega arith in rw e (put_append bs cs (set l at b) (suc at))
 
--- Four bytes, set one after the other at the start
-pub put_four : (l bs : List ℕ) → length bs ≡ 4
-    → put l 0 bs ≡ set (set (set (set l 0 (get_or bs 0 0)) 1 (get_or bs 1 0)) 2 (get_or bs 2 0)) 3 (get_or bs 3 0)
-unfolding put
-put_four l [] h = absurd (omega arith)
-put_four l (a ∷ []) h = absurd (omega arith)
-put_four l (a ∷ b ∷ []) h = absurd (omega arith)
-put_four l (a ∷ b ∷ c ∷ []) h = absurd (omega arith)
-put_four l (a ∷ b ∷ c ∷ d ∷ []) h = refl
-put_four l (a ∷ b ∷ c ∷ d ∷ e ∷ bs) h = absurd (omega arith)
-
 -- What was before the run, the run, and what was behind it
 pub put_is : (l : List ℕ) (at : ℕ) (bs : List ℕ) → at + length bs ≤ length l → put l at bs ≡ take at l ++ bs ++ drop (at + length bs) l
 unfolding put
@@ -167,23 +156,6 @@ put_is l at bs h = sets-eq bs l at h
 pub put_start : (l bs : List ℕ) → length bs ≤ length l → put l 0 bs ≡ bs ++ drop (length bs) l
 put_start l bs h = let e : 0 + length bs ≡ length bs = omega arith in put_is l 0 bs (omega arith) ∙ ap (λ (k : ℕ). bs ++ drop k l) e
 
--- Seven bits masked out, with the high bit set
-high_set : (n : ℕ) → bit_or (bit_and n 127) 128 ≡ n % 128 + 128
+-- Seven bits masked out, with the high bit set, are a group that others follow
+pub high_set : (n : ℕ) → bit_or (bit_and n 127) 128 ≡ n % 128 + 128
 high_set n = rw (and_mask n 7) (or_shifted_r 1 7 (n % 128) (mod-lt n (lit< tt)) ∙ (omega arith))
-
--- One turn of the writer, with room for a group more than g: a group is set, and the groups of what is left follow
-module _ (place g n : ℕ) where
-  pub turn_ends : 128 ≤ n → place + length (groups_of (suc g) n) ≡ place + 1 + length (groups_of g (n / 128))
-  turn_ends h = rw (groups_of-more g n h) (omega arith)
-
-  pub turn_leaves : (l : List ℕ) → 128 ≤ n
-      → put l place (groups_of (suc g) n) ≡ put (set l place (bit_or (bit_and n 127) 128)) (place + 1) (groups_of g (n / 128))
-  turn_leaves l h = rw (groups_of-more g n h, high_set n) (put_cons l place _ _)
-
-  -- Its end: the last group is set
-  pub last_ends : n < 128 → place + length (groups_of (suc g) n) ≡ place + 1
-  last_ends h = rw (groups_of-last g n h)
-
-  pub last_leaves : (l : List ℕ) → n < 128 → put l place (groups_of (suc g) n) ≡ set l place n
-  unfolding put
-  last_leaves l h = rw (groups_of-last g n h)

@@ -7,6 +7,10 @@ ghost use Rattle.wire.specs.Reading.{number_at, Sound};
 ghost use Rattle.wire.specs.Writing.{bytes_of, put};
 ghost use Rattle.wire.specs.Folding.{folded, unfolded};
 
+mod buffer;
+
+pub use buffer::Writer;
+
 // Why no number is found at a place: the bytes end too early, or the groups are no number's.
 #[derive(Clone, Copy, Debug, PartialEq, Eq)]
 pub enum NumberError {
@@ -50,48 +54,17 @@ fn read_groups(bytes: &[u8], at: usize) -> Result<(u32, usize), NumberError>
     Err(NumberError::Malformed)
 }
 
-// Puts n's groups into the buffer from a place on, the low seven bits of what is left first, and gives the place after them.
-pub fn write_number(buffer: &mut [u8], at: usize, n: u32) -> usize
-    requires { (n < 2 ^ 28) × (at + length (bytes_of n) ≤ length buffer.old) }
-    ensures { (result ≡ at + length (bytes_of n)) × (buffer.new ≡ put buffer.old at (bytes_of n)) }
-{
-    let mut rest = n;
-    let mut place = at;
-    while 127 < rest {
-        buffer[place] = ((rest & 127) | 128) as u8;
-        rest = rest >> 7;
-        place += 1;
-    }
-    buffer[place] = rest as u8;
-    place + 1
-}
-
 // How many groups n has.
 pub fn group_count(n: u32) -> usize
     requires { n < 2 ^ 28 }
     ensures { result ≡ length (bytes_of n) }
 {
-    if n < 128 {
-        return 1;
+    match n {
+        0..=127 => 1,
+        128..=16383 => 2,
+        16384..=2097151 => 3,
+        _ => 4,
     }
-    if n < 16384 {
-        return 2;
-    }
-    if n < 2097152 {
-        return 3;
-    }
-    4
-}
-
-// Puts the four bytes that open a record or a reply at the buffer's start.
-pub fn write_opening(buffer: &mut [u8], opening: [u8; 4])
-    requires { 4 ≤ length buffer.old }
-    ensures { buffer.new ≡ put buffer.old 0 opening }
-{
-    buffer[0] = opening[0];
-    buffer[1] = opening[1];
-    buffer[2] = opening[2];
-    buffer[3] = opening[3];
 }
 
 // x folded. For a negative x, -2x - 1 is 2(-1 - x) + 1, and no part of that leaves its type, whatever x is.

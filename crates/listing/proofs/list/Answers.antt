@@ -30,9 +30,13 @@ returns-in-Ok-clause-text_after c =
 pub returns-in-Err-clause-value : goal.returns-in-Err-clause-value
 returns-in-Err-clause-value c =
     let refused = listed_refused c.args.record.now empty _ _ c.in-Err.ensures c.refusal_number.ensures in
-    (whole refused (omega (arith, c.write_last.ensures.0, c.told-text)) c.write_last.ensures.1).0
+    let w = c.new-writer.ensures in
+    let wrote = rw (w.start, w.bytes) at c.write_last.ensures.1.wrote in
+    (whole refused (omega (arith, c.write_last.ensures.0, w.start, c.told-text)) wrote).0
 
 pub returns-in-Err-clause-text_after : goal.returns-in-Err-clause-text_after
 returns-in-Err-clause-text_after c =
     let refused = listed_refused c.args.record.now empty _ _ c.in-Err.ensures c.refusal_number.ensures in
-    (whole refused (omega (arith, c.write_last.ensures.0, c.told-text)) c.write_last.ensures.1).1.0
+    let w = c.new-writer.ensures in
+    let wrote = rw (w.start, w.bytes) at c.write_last.ensures.1.wrote in
+    (whole refused (omega (arith, c.write_last.ensures.0, w.start, c.told-text)) wrote).1.0
