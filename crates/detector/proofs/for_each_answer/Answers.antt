@@ -20,7 +20,7 @@ searching : {h : Header} {list points : List ℤ} {k keys bits : ℕ} → ListAs
 searching p inside pointed work array = record { held = p.held; headed = p.headed; inside = inside; pointed = pointed; work = omega arith; array = array }
 
 pub fill-requires : goal.fill-requires
-fill-requires g c = let p = c.requires.asked in (rw (width_are p.headed) p.held.ranged.width, refl)
+fill-requires g c = let p = c.requires.asked in rw (width_are p.headed) p.held.ranged.width
 
 pub overflow_mul-bits : goal.overflow_mul-bits
 overflow_mul-bits g c = let p = c.requires.asked in omega (arith, few_soft p.held p.headed)
