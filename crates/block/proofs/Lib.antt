@@ -1,5 +1,6 @@
 pub mod Ranges
 pub mod Reading
+pub mod Lending
 pub mod Runs
 pub mod Parts
 pub mod Stages

@@ -116,25 +116,27 @@ unfolding numbers_at
 into_none bytes at from list = refl
 
 -- A run of `count` numbers of one kind, after k of them
-module _ (kind : Kind) (count : ℕ) (bytes : List ℕ) (place from k : ℕ) (list : List ℤ) where
+module _ (kind : Kind) (count : ℕ) (bytes : List ℕ) (place k : ℕ) (list : List ℤ) where
   abbrev rest_of_run : Got
-  rest_of_run = into (from + k) (numbers_at (replicate (count - k) kind) bytes place) list
+  rest_of_run = into k (numbers_at (replicate (count - k) kind) bytes place) list
 
   pub run_none : count ≤ k → rest_of_run ≡ got (Ok place) list
-  run_none h = let e : count - k ≡ 0 = omega arith in rw e (into_none bytes place (from + k) list)
+  run_none h = let e : count - k ≡ 0 = omega arith in rw e (into_none bytes place k list)
 
   module _ (h : k < count) where
     more : count - k ≡ suc (count - (k + 1))
     more = omega arith
 
     pub run_taken : (z : ℤ) (next : ℕ) → one_at kind bytes place ≡ Ok (z, next)
-        → rest_of_run ≡ into (from + (k + 1)) (numbers_at (replicate (count - (k + 1)) kind) bytes next) (set list (from + k) z)
+        → rest_of_run ≡ into (k + 1) (numbers_at (replicate (count - (k + 1)) kind) bytes next) (set list k z)
     run_taken z next e =
-        let s : from + (k + 1) ≡ suc (from + k) = omega arith in
-        rw (more, s) (into_taken kind (replicate (count - (k + 1)) kind) bytes place (from + k) list z next e)
+        let s : suc k ≡ k + 1 = omega arith in
+        let later = numbers_at (replicate (count - (k + 1)) kind) bytes next in
+        rw more
+        (into_taken kind (replicate (count - (k + 1)) kind) bytes place k list z next e ∙ ap (λ (n : ℕ). into n later (set list k z)) s)
 
     pub run_turned : (r : Refusal) → one_at kind bytes place ≡ Err r → rest_of_run ≡ got (Err r) list
-    run_turned r e = rw more (into_turned kind (replicate (count - (k + 1)) kind) bytes place (from + k) list r e)
+    run_turned r e = rw more (into_turned kind (replicate (count - (k + 1)) kind) bytes place k list r e)
 
 -- Ended and turned back are two things
 not_both : {at : ℕ} {r : Refusal} {l l' : List ℤ} → got (Ok at) l ≡ got (Err r) l' → ⊥

@@ -1,15 +1,16 @@
 -- The stages of a record as the reader stores them: what the list holds behind each, and that the next one goes on there.
-use Prim.Native.Nat.{ℕ, ◌+◌, ◌*◌, ◌≤◌, ◌<◌}
+use Prim.Native.Nat.{ℕ, ◌+◌, ◌-◌, ◌*◌, ◌≤◌, ◌<◌}
 use mathlib.Core.Path.{◌≡◌, sym, ◌∙◌, ap}
 use mathlib.Core.List.{List, [], ◌∷◌}
 use native.Mathlib.Omega.{arith}
 use native.Mathlib.Nat.{suc-mul, mul-le-mul_right}
-use lib.ListN.{length, get_or, take}
+use borrow.Rule.Slice.PartMut.{put_mid}
+use lib.ListN.{length, get_or, take, drop}
 use lib.Seq.{get_or-take}
 use lib.IntN.{ℤ, pos, nat_abs}
 use Rattle.refusals.specs.Table.{allowed}
 use Rattle.model.specs.Block.{most_streams, most_vectors}
-use Rattle.block.specs.Reading.{weak_count, own_count, header_size, numbers_at, kinds_of, runs_of, Small, part_kinds, part_at, owned_size, count_at, most_numbers, size_stage, limit_stage, vector_stage, stages, stages_at, got, into, StreamsStored, SizesStored}
+use Rattle.block.specs.Reading.{Read, weak_count, own_count, header_size, numbers_at, kinds_of, runs_of, Small, part_kinds, part_at, owned_size, count_at, most_numbers, size_stage, limit_stage, vector_stage, stages, stages_at, got, into, StreamsStored, SizesStored}
 use Rattle.refusals.specs.declared.Kind.{Kind}
 use Rattle.refusals.specs.declared.Kind.TheVariants.{StreamCount, SymbolWidth, WeakLevel, NodeShare}
 use Rattle.block.specs.declared.Layout.{Layout}
@@ -17,6 +18,7 @@ use Rattle.block.specs.declared.Part.TheVariants.{First, Sizes, Limits, Vector}
 use Rattle.std.specs.Prelude.{Ok, Err}
 use Rattle.refusals.specs.declared.Refusal.{Refusal}
 use Rattle.block.proofs.Runs.{run_numbers, owned_numbers}
+use Rattle.block.proofs.Lending.{tail_part}
 use Rattle.block.proofs.Ranges.{between_plain, allowed_width}
 use Rattle.block.proofs.Parts.{weak_few, all_fit, plain_most, width_most, label_most}
 use Rattle.block.proofs.Stages.{stored_length, stored_before, stored_allowed, stage_ended, stage_refused, stage_last}
@@ -49,6 +51,25 @@ module _ (o : Layout) (list : List ℤ) (s : SizesStored list) where
 pub limits_numbers : (o : Layout) (m c : ℤ) → 4 + length (part_kinds (Limits (weak_count o) m c)) ≡ header_size o
 unfolding kinds_of runs_of
 limits_numbers o m c = omega (arith, run_numbers (WeakLevel c) (weak_count o) (NodeShare m ∷ []))
+
+-- Q, N and C read into the places behind M
+pub sizes_lent : (bytes : List ℕ) (at : ℕ) (list : List ℤ) → StreamsStored list → (part : List ℤ) (r : Read)
+    → let sizes = part_kinds (Sizes (get_or list 0 (pos 0))) in
+    got r part ≡ into 0 (numbers_at sizes bytes at) (take (most_numbers - 1) (drop 1 list))
+    → got r (put_mid 1 (most_numbers - 1) list part) ≡ into 1 (numbers_at sizes bytes at) list
+unfolding kinds_of runs_of
+sizes_lent bytes at list s part r e =
+    tail_part (part_kinds (Sizes (get_or list 0 (pos 0)))) 1 list s.room (omega arith) bytes at part r e
+
+-- and W and D behind those
+pub limits_lent : (o : Layout) (bytes : List ℕ) (at : ℕ) (list : List ℤ) → SizesStored list → (part : List ℤ) (r : Read)
+    → let limits = part_kinds (Limits (weak_count o) (get_or list 0 (pos 0)) (get_or list 3 (pos 0))) in
+    got r part ≡ into 0 (numbers_at limits bytes at) (take (most_numbers - 4) (drop 4 list))
+    → got r (put_mid 4 (most_numbers - 4) list part) ≡ into 4 (numbers_at limits bytes at) list
+limits_lent o bytes at list s part r e =
+    let limits = part_kinds (Limits (weak_count o) (get_or list 0 (pos 0)) (get_or list 3 (pos 0))) in
+    let fits : 4 + length limits ≤ most_numbers = omega (arith, limits_numbers o (get_or list 0 (pos 0)) (get_or list 3 (pos 0)), weak_few o) in
+    tail_part limits 4 list s.stored.room fits bytes at part r e
 
 module _ (o : Layout) (bytes : List ℕ) (at : ℕ) (list list' : List ℤ) where
   -- M

@@ -57,48 +57,30 @@ fn read_one(bytes: &[u8], at: usize, kind: Kind, sure: u32) -> Result<(i32, usiz
     ranged(kind, n, next)
 }
 
-// A run of numbers of one kind, stored from a place of the lent list on.
-fn read_run(
-    bytes: &[u8],
-    at: usize,
-    kind: Kind,
-    count: usize,
-    numbers: &mut [i32; MOST_NUMBERS],
-    from: usize,
-) -> Result<usize, Refusal>
-    requires { from + count ≤ most_numbers }
-    ensures { got result numbers.new ≡ into from (numbers_at (replicate count kind) bytes.now at) numbers.old }
+// Numbers of one kind, as many as the lent list has places.
+fn read_run(bytes: &[u8], at: usize, kind: Kind, numbers: &mut [i32]) -> Result<usize, Refusal>
+    ensures { got result numbers.new ≡ into 0 (numbers_at (replicate (length numbers.old) kind) bytes.now at) numbers.old }
 {
     let sure = sure_below(kind);
     let mut place = at;
-    for k in 0..count {
-        let (z, next) = read_one(bytes, place, kind, sure)?;
-        numbers[from + k] = z;
-        place = next;
+    for number in numbers.iter_mut() {
+        (*number, place) = read_one(bytes, place, kind, sure)?;
     }
     Ok(place)
 }
 
-// A part of a record, run by run, stored from a place of the lent list on.
-fn read_part(
-    bytes: &[u8],
-    at: usize,
-    part: Part,
-    numbers: &mut [i32; MOST_NUMBERS],
-    from: usize,
-) -> Result<usize, Refusal>
-    requires { Small part × (from + length (kinds_of (runs_of part)) ≤ most_numbers) }
-    ensures { got result numbers.new ≡ into from (part_at part bytes.now at) numbers.old }
+// A part of a record, run by run, into the front of the lent list.
+fn read_part(bytes: &[u8], at: usize, part: Part, numbers: &mut [i32]) -> Result<usize, Refusal>
+    requires { Small part × (length (kinds_of (runs_of part)) ≤ length numbers.old) }
+    ensures { got result numbers.new ≡ into 0 (part_at part bytes.now at) numbers.old }
 {
-    let runs = part.run_count();
     let mut place = at;
-    let mut to = from;
-    for i in 0..runs {
+    let mut from = 0;
+    for i in 0..part.run_count() {
         let run = part.run_at(i);
-        let kind = run.kind;
-        let count = run.count;
-        place = read_run(bytes, place, kind, count, numbers, to)?;
-        to += count;
+        let end = from + run.count;
+        place = read_run(bytes, place, run.kind, &mut numbers[from..end])?;
+        from = end;
     }
     Ok(place)
 }
@@ -121,7 +103,7 @@ fn read_vectors(
     let mut place = at;
     for k in 0..n {
         let first = vector_start(layout, m, q, k);
-        place = read_part(bytes, place, vector, numbers, first)?;
+        place = read_part(bytes, place, vector, &mut numbers[first..])?;
     }
     Ok(place)
 }
@@ -138,18 +120,23 @@ fn read_limited(
         ≡ into 4 (stages_at (limit_stage layout ∷ vector_stage layout ∷ []) (take 4 numbers.old) bytes.now at) numbers.old }
 {
     let limits = Part::Limits(layout.weak_count(), numbers[0], numbers[3]);
-    let next = read_part(bytes, at, limits, numbers, 4)?;
+    let next = read_part(bytes, at, limits, &mut numbers[4..])?;
     read_vectors(bytes, next, layout, numbers)
 }
 
 // Q, N and C, then what they call for, behind M, which stands in the list.
-fn read_sized(bytes: &[u8], at: usize, layout: Layout, numbers: &mut [i32; MOST_NUMBERS]) -> Result<usize, Refusal>
+fn read_sized(
+    bytes: &[u8],
+    at: usize,
+    layout: Layout,
+    numbers: &mut [i32; MOST_NUMBERS],
+) -> Result<usize, Refusal>
     requires { StreamsStored numbers.old }
     ensures { got result numbers.new
         ≡ into 1 (stages_at (size_stage ∷ limit_stage layout ∷ vector_stage layout ∷ []) (take 1 numbers.old) bytes.now at) numbers.old }
 {
     let sizes = Part::Sizes(numbers[0]);
-    let next = read_part(bytes, at, sizes, numbers, 1)?;
+    let next = read_part(bytes, at, sizes, &mut numbers[1..])?;
     read_limited(bytes, next, layout, numbers)
 }
 
@@ -175,20 +162,18 @@ pub fn layout_of(bytes: &[u8]) -> Layout
 
 // A record at the front of the bytes: its whole numbers into the lent list, and where it ended. What was taken before a refusal stays.
 pub fn read_record(bytes: &[u8], numbers: &mut [i32; MOST_NUMBERS]) -> Result<usize, Refusal>
-    requires { length numbers.old ≡ most_numbers }
     ensures { got result numbers.new ≡ into 0 (read_record bytes.now) numbers.old }
 {
     let layout = layout_of(bytes);
     if !has_opening(bytes, layout) {
         return Err(Refusal::Opening);
     }
-    let next = read_part(bytes, 4, Part::First, numbers, 0)?;
+    let next = read_part(bytes, 4, Part::First, numbers)?;
     read_sized(bytes, next, layout, numbers)
 }
 
 // The same of bytes that are one record and no more.
 pub fn read_whole(bytes: &[u8], numbers: &mut [i32; MOST_NUMBERS]) -> Result<usize, Refusal>
-    requires { length numbers.old ≡ most_numbers }
     ensures { got result numbers.new ≡ into 0 (read_whole bytes.now) numbers.old }
 {
     let at = read_record(bytes, numbers)?;

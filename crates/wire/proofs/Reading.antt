@@ -14,7 +14,6 @@ use lib.ListN.{length, get_or, drop, drop_of_length-le}
 use lib.Pow.{shl_exact}
 use lib.Seq.{drop-cons}
 use Rattle.std.specs.Prelude.{Result, Ok, Err}
-use Rattle.wire.specs.declared.NumberError.{NumberError}
 use Rattle.wire.specs.declared.NumberError.TheVariants.{Short, Malformed}
 use Rattle.wire.specs.Reading.{Number, above_digits, last_group, groups, number_at, number_refusal}
 use Rattle.wire.proofs.Writing.{weight}

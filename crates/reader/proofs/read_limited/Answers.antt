@@ -9,29 +9,35 @@ use mir.Val.{SFits}
 use mir.Facts.{to_z-of_z}
 use Rattle.std.proofs.lemmas.Result.{err_from_is_err_and}
 use Rattle.block.proofs.Parts.{weak_few}
-use Rattle.block.proofs.Stored.{limits_numbers, limits_stored, limits_ended, limits_refused}
+use Rattle.block.proofs.Lending.{tail_room}
+use Rattle.block.proofs.Stored.{limits_numbers, limits_lent, limits_stored, limits_ended, limits_refused}
 use Rattle.reader.proofs.read_limited.Goals as goal
 
 pub read_part-requires : goal.read_part-requires
 read_part-requires c =
-    rw c.weak_count.ensures (tt, omega (arith, limits_numbers, weak_few c.args.layout))
+    rw c.weak_count.ensures
+    (tt, tail_room _ 4 c.args.numbers.now c.told-numbers (omega (arith, limits_numbers, weak_few c.args.layout)))
 
 pub read_vectors-requires : goal.read_vectors-requires
 read_vectors-requires c =
     let m : SFits w32 (get_or c.args.numbers.now 0 (pos 0)) = search rules in
     let clip : SFits w32 (get_or c.args.numbers.now 3 (pos 0)) = search rules in
-    limits_stored c.args.layout _ _ _ _ _ c.requires (simp to_z-of_z at (rw c.weak_count.ensures at c.in_ok-next.ensures))
+    let read = simp to_z-of_z at (rw c.weak_count.ensures at c.in_ok-next.ensures) in
+    limits_stored c.args.layout _ _ _ _ _ c.requires (limits_lent c.args.layout c.args.bytes.now c.args.at c.args.numbers.now c.requires _ _ read)
 
 pub returns-in_err-next : goal.returns-in_err-next
 returns-in_err-next c =
     let m : SFits w32 (get_or c.args.numbers.now 0 (pos 0)) = search rules in
     let clip : SFits w32 (get_or c.args.numbers.now 3 (pos 0)) = search rules in
+    let read = simp to_z-of_z at (rw c.weak_count.ensures at c.in_err-next.ensures) in
     let p = err_from_is_err_and c.from_residual.result c.from_residual.ensures.1 in
     rw (p.1, p.2)
-    (sym (limits_refused c.args.layout _ _ _ _ _ (simp to_z-of_z at (rw c.weak_count.ensures at c.in_err-next.ensures))))
+    (sym (limits_refused c.args.layout _ _ _ _ _ (limits_lent c.args.layout c.args.bytes.now c.args.at c.args.numbers.now c.requires _ _ read)))
 
 pub returns : goal.returns
 returns c =
     let m : SFits w32 (get_or c.args.numbers.now 0 (pos 0)) = search rules in
     let clip : SFits w32 (get_or c.args.numbers.now 3 (pos 0)) = search rules in
-    c.read_vectors.ensures ∙ sym (limits_ended c.args.layout _ _ _ _ _ c.requires (simp to_z-of_z at (rw c.weak_count.ensures at c.in_ok-next.ensures)))
+    let read = simp to_z-of_z at (rw c.weak_count.ensures at c.in_ok-next.ensures) in
+    c.read_vectors.ensures
+    ∙ sym (limits_ended c.args.layout _ _ _ _ _ c.requires (limits_lent c.args.layout c.args.bytes.now c.args.at c.args.numbers.now c.requires _ _ read))

@@ -1,10 +1,8 @@
 -- Behind the opening of its layout M is read, and behind M what it calls for.
-use mathlib.Core.Path.{◌≡◌, sym, ◌∙◌, ap}
-use mathlib.Core.Bool.{true}
+use mathlib.Core.Path.{sym, ◌∙◌}
 use native.Mathlib.Omega.{arith}
 use Rattle.std.proofs.lemmas.Result.{err_from_is_err_and}
-use Rattle.block.specs.Reading.{opening, kinds_of, runs_of, starts_with, layout_of, read_record}
-use Rattle.block.specs.declared.Layout.{Layout}
+use Rattle.block.specs.Reading.{kinds_of, runs_of, layout_of, read_record}
 use Rattle.block.proofs.Stored.{first_stored, first_ended, first_refused}
 use Rattle.reader.proofs.read_record.Goals as goal
 
@@ -17,7 +15,7 @@ unfolding read_record
 returns-then-not-has_opening c = rw (rw c.layout_of-layout.ensures at (sym c.if-not-has_opening.ensures))
 
 pub read_sized-requires : goal.read_sized-requires
-read_sized-requires c = first_stored c.layout_of-layout.result _ _ _ _ _ c.requires c.in_ok-next.ensures
+read_sized-requires c = first_stored c.layout_of-layout.result _ _ _ _ _ c.told-numbers c.in_ok-next.ensures
 
 pub returns-in_err-next : goal.returns-in_err-next
 unfolding read_record
@@ -30,4 +28,4 @@ pub returns : goal.returns
 unfolding read_record
 returns c =
     rw (rw c.layout_of-layout.ensures at (sym c.if-not-has_opening.ensures))
-    (rw c.layout_of-layout.ensures at c.read_sized.ensures ∙ sym (first_ended (layout_of c.args.bytes.now) _ _ _ _ _ c.requires c.in_ok-next.ensures))
+    (rw c.layout_of-layout.ensures at c.read_sized.ensures ∙ sym (first_ended (layout_of c.args.bytes.now) _ _ _ _ _ c.told-numbers c.in_ok-next.ensures))
