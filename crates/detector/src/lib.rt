@@ -11,7 +11,7 @@ ghost use Rattle.block.specs.Contents.{owner_at, vector_rows, block_of};
 ghost use Rattle.owners.specs.Spares.{Spares};
 ghost use Rattle.search.specs.Values.{Answered};
 ghost use Rattle.replies.specs.Reply.{answer_numbers, written, reply_of};
-ghost use Rattle.refusals.specs.Filling.{returned, buffer_after};
+ghost use Rattle.refusals.specs.Filling.{returned, buffer_after, Fills};
 ghost use Rattle.detector.specs.Outcome.{outcome, by_room};
 ghost use Rattle.search.specs.Holds.{Holds};
 ghost use Rattle.detector.specs.Steps.{Heads, OwnerAsked, ListAsked, SearchOneAsked, ReplyAsked, CanWrite};
@@ -184,27 +184,32 @@ fn answer_all(numbers: &[i32], h: Header, reply: &mut [u8]) -> usize
     writer.at
 }
 
-// The reply to the record that the lent list holds, if the buffer has room for any reply of its size.
-fn reply_to(layout: Layout, numbers: &[i32], reply: &mut [u8]) -> i64
+// The reply to the record that the lent list holds, if the buffer has room for any reply of its size; its length.
+fn reply_to(layout: Layout, numbers: &[i32], reply: &mut [u8]) -> Result<usize, Refusal>
     requires { Holds layout numbers.now }
-    ensures { (result ≡ returned (by_room (length reply.old) (block_of layout numbers.now)))
-        × (reply.new ≡ buffer_after (by_room (length reply.old) (block_of layout numbers.now)) reply.old) }
+    ensures { Fills (by_room (length reply.old) (block_of layout numbers.now)) reply.old result reply.new }
 {
     let h = header_of(layout, numbers);
     if reply.len() < replies::room(h.streams, h.width, h.vectors) {
-        return refusals::refused(Refusal::Buffer);
+        return Err(Refusal::Buffer);
     }
-    answer_all(numbers, h, reply) as i64
+    Ok(answer_all(numbers, h, reply))
 }
 
-// One record in, one reply out: the reply's length, or minus the refusal number over an untouched buffer.
+// One record in, one reply out: the reply's length, or the refusal over an untouched buffer.
+fn answer(record: &[u8], reply: &mut [u8]) -> Result<usize, Refusal>
+    ensures { Fills (outcome «record».now (length reply.old)) reply.old result reply.new }
+{
+    let mut numbers = [0; block::MOST_NUMBERS];
+    reader::read_whole(record, &mut numbers)?;
+    reply_to(reader::layout_of(record), &numbers, reply)
+}
+
+// The same, told by a number: the reply's length, or minus the refusal number over an untouched buffer.
+#[tactic(auto, using(refusals::proofs::Outcomes::number_counted, refusals::proofs::Outcomes::fills_few))]
 pub fn geckoneedle_detect(record: &[u8], reply: &mut [u8]) -> i64
     ensures { (result ≡ returned (outcome «record».now (length reply.old)))
         × (reply.new ≡ buffer_after (outcome «record».now (length reply.old)) reply.old) }
 {
-    let mut numbers = [0i32; block::MOST_NUMBERS];
-    match reader::read_whole(record, &mut numbers) {
-        Ok(_) => reply_to(reader::layout_of(record), &numbers, reply),
-        Err(refusal) => refusals::refused(refusal),
-    }
+    refusals::returned(answer(record, reply))
 }

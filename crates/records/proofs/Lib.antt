@@ -5,5 +5,4 @@ pub mod Writing
 pub mod Reading
 pub mod RoundTrip
 pub mod Readings
-pub mod Outcomes
 pub mod Beginnings

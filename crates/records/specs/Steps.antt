@@ -53,12 +53,3 @@ as_read size (turned r) = Err r
 pub record WriteAsked (layout : Layout) (numbers : List ℤ) (room : ℕ) : Type 0 where
   pub fine_is : checked (called_for layout numbers) numbers ≡ fine
   pub buffer : length (record_of layout numbers) ≤ room
-
--- What a call that fills lent memory comes to: how many entries it wrote, or its refusal
-abbrev pub counted : {A : Type 0} → Filling A → Result ℕ Refusal
-counted (refused r) = Err r
-counted (filled entries) = Ok (length entries)
-
--- and the lent memory afterwards
-abbrev pub Fills : {A : Type 0} → Filling A → List A → Result ℕ Refusal → List A → Type 0
-Fills f old result new = (result ≡ counted f) × (new ≡ buffer_after f old)

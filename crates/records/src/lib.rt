@@ -9,9 +9,9 @@ ghost use Rattle.block.specs.Reading.{header_size, kinds_of, matrix_runs, most_n
 ghost use Rattle.block.specs.Contents.{header_kinds};
 ghost use Rattle.block.specs.Conditions.{called_for};
 ghost use Rattle.refusals.specs.declared.Kind.TheVariants.{StreamCount};
-ghost use Rattle.refusals.specs.Filling.{call, filling, fitted};
+ghost use Rattle.refusals.specs.Filling.{Fills, call, filling, fitted};
 ghost use Rattle.records.specs.Writing.{checked, plain_of, record_of, writing_in, writing, reading};
-ghost use Rattle.records.specs.Steps.{kind_at, Asked, FirstAllowed, Called, Sized, number_count, as_read, WriteAsked, Fills};
+ghost use Rattle.records.specs.Steps.{kind_at, Asked, FirstAllowed, Called, Sized, number_count, as_read, WriteAsked};
 
 use block::Layout;
 use refusals::{Kind, Refusal};
@@ -227,7 +227,7 @@ fn read(record: &[u8], numbers: &mut [i32]) -> Result<usize, Refusal>
 
 // A list's whole numbers in, and the opening told by its number; record bytes out: how many, or minus the refusal number over an untouched
 // buffer.
-#[tactic(auto, using(crate::proofs::Outcomes::fills_call, crate::proofs::Outcomes::fills_few))]
+#[tactic(auto, using(refusals::proofs::Outcomes::fills_call, refusals::proofs::Outcomes::fills_few))]
 pub fn geckoneedle_write(opening: u32, numbers: &[i32], record: &mut [u8]) -> i64
     ensures { call result «record».new
         ≡ filling (writing opening numbers.now (length «record».old)) «record».old }
@@ -236,7 +236,7 @@ pub fn geckoneedle_write(opening: u32, numbers: &[i32], record: &mut [u8]) -> i6
 }
 
 // A record's bytes in, its whole numbers out: how many, or minus the refusal number over an untouched list.
-#[tactic(auto, using(crate::proofs::Outcomes::fills_call, crate::proofs::Outcomes::fills_few))]
+#[tactic(auto, using(refusals::proofs::Outcomes::fills_call, refusals::proofs::Outcomes::fills_few))]
 pub fn geckoneedle_read(record: &[u8], numbers: &mut [i32]) -> i64
     ensures { call result numbers.new
         ≡ filling (reading «record».now (length numbers.old)) numbers.old }

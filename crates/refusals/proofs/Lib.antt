@@ -1,3 +1,4 @@
 pub mod Tests
 pub mod Fillings
 pub mod Readings
+pub mod Outcomes

@@ -1,7 +1,7 @@
 -- Document 02, Point 2: what a call that fills lent memory comes to, whatever its entries are. "Here and in every later call that fills lent
 -- memory, unless it says otherwise, an acceptance returns how many entries it wrote and alters no others, a refusal returns minus its number
 -- and alters none." Document 01 says the same of the reply.
-use Rattle.std.specs.Prelude.{ℕ, cond, List, ◌++◌, ltb, length, drop, ℤ, pos, neg_ℤ, Result, Ok, Err}
+use Rattle.std.specs.Prelude.{ℕ, ◌≡◌, cond, List, ◌++◌, ltb, length, drop, ℤ, pos, neg_ℤ, Result, Ok, Err}
 use Rattle.refusals.specs.Table.{refusal_number}
 use Rattle.refusals.specs.declared.Refusal.{Refusal}
 use Rattle.refusals.specs.declared.Refusal.TheVariants.{Buffer}
@@ -25,6 +25,14 @@ returned_as (Err r) = neg_ℤ (pos (refusal_number r))
 abbrev pub buffer_after : {A : Type 0} → Filling A → List A → List A
 buffer_after (refused r) lent = lent
 buffer_after (filled entries) lent = entries ++ drop (length entries) lent
+
+-- What such a call comes to before it is told as a number: how many entries it wrote, or its refusal; and the lent memory afterwards
+abbrev pub counted : {A : Type 0} → Filling A → Result ℕ Refusal
+counted (refused r) = Err r
+counted (filled entries) = Ok (length entries)
+
+abbrev pub Fills : {A : Type 0} → Filling A → List A → Result ℕ Refusal → List A → Type 0
+Fills f old result new = (result ≡ counted f) × (new ≡ buffer_after f old)
 
 -- The returned number and the whole lent memory afterwards, as one
 pub record Call (A : Type 0) : Type 0 where

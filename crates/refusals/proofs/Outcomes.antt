@@ -1,11 +1,10 @@
 -- What a call that fills lent memory comes to, and C's number for it.
 use Rattle.std.proofs.Common.{◌≡◌, ℕ, ◌^◌, ◌<◌, List, length, drop, refl, ◌∙◌, ap, ap₂, arith, length-append, IfOk, Result}
 use Rattle.refusals.specs.declared.Refusal.{Refusal}
-use Rattle.refusals.specs.Filling.{Filling, refused, filled, returned, returned_as, call, filling}
-use Rattle.records.specs.Steps.{counted, Fills}
+use Rattle.refusals.specs.Filling.{Filling, refused, filled, returned, returned_as, counted, Fills, call, filling}
 
 module _ {A : Type 0} where
-  number_counted : (f : Filling A) → returned_as (counted f) ≡ returned f
+  pub number_counted : (f : Filling A) → returned_as (counted f) ≡ returned f
   number_counted (refused r) = refl
   number_counted (filled entries) = refl
 
