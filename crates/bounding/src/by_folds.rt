@@ -68,6 +68,24 @@ impl ByFolds {
     }
 }
 
+// The same, of an axis by its numbers. An axis of 64-QAM has three bits, one of 16-QAM two and one of 256-QAM four, which the compiler is told
+// here: this is called and not inlined, so a size more costs nothing.
+fn any_bit_of(left: i64, diagonal: u64, width: usize, other: u64, low: u64, limits: Limits) -> bool
+    requires { (nat_abs left < remainder_bound) × (diagonal ≤ most_entry) × (width ≤ axis_width) × (other < 2 ^ 63)
+        × (limits.own < 2 ^ width) }
+    ensures { result ≡ any_bit left diagonal width other low limits.entry.entries.now 0 limits.entry.own }
+{
+    let axis = ByFolds {
+        left,
+        diagonal,
+        width,
+    };
+    sized::<3, 2, _, _>(
+        width,
+        &mut |w| sized::<4, 4, _, _>(w, &mut |w| axis.with_width(w).any_bit(other, low, limits)),
+    )
+}
+
 impl Axis for ByFolds {
     ghost bits = { λ a. a.width };
 
@@ -85,14 +103,9 @@ impl Axis for ByFolds {
         near * near
     }
 
-    // An axis of 64-QAM has three bits, one of 16-QAM two and one of 256-QAM four, which the compiler is told here: this is called and not
-    // inlined, so a size more costs nothing.
+    // A part of the caller, which hands the axis on by its numbers: an axis that is lent to a call would be stored at every node.
+    #[inline(always)]
     fn any_below(self, other: u64, low: u64, limits: Limits) -> bool {
-        sized::<3, 2, _, _>(
-            self.width,
-            &mut |w| {
-                sized::<4, 4, _, _>(w, &mut |w| self.with_width(w).any_bit(other, low, limits))
-            },
-        )
+        any_bit_of(self.left, self.diagonal, self.width, other, low, limits)
     }
 }

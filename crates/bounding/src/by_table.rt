@@ -56,6 +56,23 @@ impl<'a> ByTable<'a> {
     }
 }
 
+// The same, of an axis by its entries and numbers. The compiler is told of four bits too: this is called and not inlined, so a size more costs
+// nothing.
+fn any_part_of(entries: &[i32; AXES], left: i64, width: usize, other: u64, limits: Limits) -> bool
+    requires { LeastAsked entries.now 0 left width × (other < 2 ^ 63) × (limits.own < 2 ^ width) }
+    ensures { result ≡ any_part limits.entry.entries.now 0 (table_part entries.now 0 left) other limits.entry.own 0 (2 ^ width) }
+{
+    let axis = ByTable {
+        entries,
+        left,
+        width,
+    };
+    sized::<3, 2, _, _>(
+        width,
+        &mut |w| sized::<4, 4, _, _>(w, &mut |w| axis.with_width(w).any_part(other, limits)),
+    )
+}
+
 impl Axis for ByTable<'_> {
     ghost bits = { λ a. a.width };
 
@@ -72,14 +89,9 @@ impl Axis for ByTable<'_> {
         sized::<3, 2, _, _>(self.width, &mut |w| self.with_width(w).least_part())
     }
 
-    // An axis of 64-QAM has three bits, one of 16-QAM two and one of 256-QAM four, which the compiler is told here: this is called and not
-    // inlined, so a size more costs nothing.
+    // A part of the caller, as with folds.
+    #[inline(always)]
     fn any_below(self, other: u64, _low: u64, limits: Limits) -> bool {
-        sized::<3, 2, _, _>(
-            self.width,
-            &mut |w| {
-                sized::<4, 4, _, _>(w, &mut |w| self.with_width(w).any_part(other, limits))
-            },
-        )
+        any_part_of(self.entries, self.left, self.width, other, limits)
     }
 }

@@ -44,11 +44,12 @@ impl Pass<'_> {
         let axes = self.axes;
         let n = self.columns();
         let mut parts = [0; SPAN];
-        parts.copy_from_slice(&axes[SPAN..]);
+        let imaginary = &mut parts[..n];
+        imaginary.copy_from_slice(&axes[SPAN..SPAN + n]);
         for a in 0..rows {
             fill_sums(
                 self.shared + axes[a],
-                &parts[..n],
+                imaginary,
                 &mut keys[a * n..a * n + n],
             );
         }

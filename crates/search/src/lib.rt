@@ -82,10 +82,10 @@ fn walk(
     ensures parts { BestParts (vector_for vector.entry.task vector.entry.numbers.now) result }
 {
     let places = turn::key_places(vector.task.width);
-    let n: usize = 1 << vector.task.width;
     let mut k = kept;
     let mut parent = node;
-    for _tried in 0..n {
+    // By how many are left: the compiler would compare a count of those that were tried with 2^Q by a shift, at every turn.
+    for _left in (0..axes::labels(vector.task.width)).rev() {
         match turn::advance(vector, parent, k, &minima[hypotheses::LIMITS..], keys) {
             Turn::Ended => return k,
             Turn::Stop => return halted(k),

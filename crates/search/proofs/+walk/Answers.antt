@@ -1,9 +1,6 @@
 -- Each turn over the node's children is one step of the search below the node, as the turn's answer says.
-use Rattle.std.proofs.Common.{◌∙◌, refl, ap, arith, ℕ, List, ◌-◌, ◌*◌, ◌%◌, ◌^◌, ◌<◌, length}
-use Rattle.std.proofs.Math.IntN.{ℤ}
-use Rattle.hypotheses.specs.Limits.{SearchAsked}
+use Rattle.std.proofs.Common.{◌≡◌, ◌∙◌, refl, ap, arith, ℕ, ◌+◌, ◌-◌, ◌^◌, ◌<◌, ◌≤◌, length}
 use borrow.Rule.Slice.PartMut.{same_len_mid}
-use Rattle.metric.proofs.Shifts.{one_shifted}
 use Rattle.search_spec.specs.Program.{Kept}
 use Rattle.enumeration.specs.Rows.{key_count}
 use Rattle.tree.specs.declared.Node.{Node}
@@ -11,29 +8,33 @@ use Rattle.expansion.proofs.Nodes.{partial_under, leaf_placed}
 use Rattle.search.proofs.Search.{limits_lent, start, done, ended, halts, cut, past, stops, onward, onward_here, limits_asked, next_asked, child_asked, child_in_lem, leaf_noted}
 use Rattle.search.proofs.Best.{best_counted, leaf_cost, best_after_lem}
 use Rattle.search.proofs.+walk.Goals as goal
-use Rattle.search.proofs.+walk.Goals.{in-Left, in-Leaf, in-Enter+else-k, in-Cut}
 
--- A turn of the loop has a child to try
-in_loop : {m q clip : ℕ} {numbers : List ℤ} → SearchAsked m q clip numbers → {i : ℕ} → i < 1 * 2 ^ q % 2 ^ 64 → i < 2 ^ q
-in_loop {m} {q} asked h = omega (arith, h, one_shifted q (omega (arith, asked.vector.bits)))
+-- A turn of the loop has a child to try, and one more was tried after it
+module _ {n total left : ℕ} (is : n ≡ total) (some : 0 < left) (room : left ≤ n) where
+  in_loop : total - left < total
+  in_loop = omega arith
 
-pub loop-tried-init : goal.loop-tried-init
-loop-tried-init t c =
+  tried_next : total - (left - 1) ≡ total - left + 1
+  tried_next = omega arith
+
+pub loop-left-init : goal.loop-left-init
+loop-left-init t c =
     let w = c.requires.asked in
     let v = c.args.vector in
+    let none : 2 ^ v.task.width - c.labels-left.result ≡ 0 = omega (arith, c.labels-left.ensures.value) in
     record {
       whole = omega arith;
       same = refl;
-      state = start v.asked w.node c.requires.inner _ _ w.lowest w.limited w.opposed _ _ w.room c.requires.filled _ _ c.requires.running;
+      state = rw none (start v.asked w.node c.requires.inner _ _ w.lowest w.limited w.opposed _ _ w.room c.requires.filled _ _ c.requires.running);
       parts = c.requires.parts;
     }
 
 pub advance-requires : goal.advance-requires
 advance-requires t c =
     let v = c.args.vector in
-    let h = c.loop-tried.invariant.state in
-    let more = in_loop v.asked c.loop-tried-test.true in
-    rw (limits_lent c.loop-tried.minima c.loop-tried.invariant.whole) (record {
+    let h = c.loop-left.invariant.state in
+    let more = in_loop c.labels-left.ensures.value c.loop-left-test.true c.loop-left.auto._left in
+    rw (limits_lent c.loop-left.minima c.loop-left.invariant.whole) (record {
       child = child_in_lem v.asked h more;
       limited = limits_asked v.asked h.node _ _ h.limited;
       next = next_asked v.asked h more;
@@ -44,24 +45,24 @@ advance-requires t c =
 pub returns-in-Ended-clause-found : goal.returns-in-Ended-clause-found
 returns-in-Ended-clause-found t c =
     let v = c.args.vector in
-    let h = c.loop-tried.invariant.state in
-    let more = in_loop v.asked c.loop-tried-test.true in
-    ended v.asked h more (rw (limits_lent c.loop-tried.minima c.loop-tried.invariant.whole) at c.in-Ended.ensures)
+    let h = c.loop-left.invariant.state in
+    let more = in_loop c.labels-left.ensures.value c.loop-left-test.true c.loop-left.auto._left in
+    ended v.asked h more (rw (limits_lent c.loop-left.minima c.loop-left.invariant.whole) at c.in-Ended.ensures)
 
 pub returns-in-Stop-clause-found : goal.returns-in-Stop-clause-found
 returns-in-Stop-clause-found t c =
     let v = c.args.vector in
-    let h = c.loop-tried.invariant.state in
-    let more = in_loop v.asked c.loop-tried-test.true in
-    let r = rw (limits_lent c.loop-tried.minima c.loop-tried.invariant.whole) at c.in-Stop.ensures in
+    let h = c.loop-left.invariant.state in
+    let more = in_loop c.labels-left.ensures.value c.loop-left-test.true c.loop-left.auto._left in
+    let r = rw (limits_lent c.loop-left.minima c.loop-left.invariant.whole) at c.in-Stop.ensures in
     rw c.halted.ensures (halts v.asked h more r.0 r.1)
 
 pub take-k-requires : goal.take-k-requires
 take-k-requires t c =
     let v = c.args.vector in
-    let h = c.loop-tried.invariant.state in
-    let more = in_loop v.asked c.loop-tried-test.true in
-    let r = rw (limits_lent c.loop-tried.minima c.loop-tried.invariant.whole) at c.in-Leaf.ensures in
+    let h = c.loop-left.invariant.state in
+    let more = in_loop c.labels-left.ensures.value c.loop-left-test.true c.loop-left.auto._left in
+    let r = rw (limits_lent c.loop-left.minima c.loop-left.invariant.whole) at c.in-Leaf.ensures in
     let child = child_in_lem v.asked h more in
     rw (r.1, c.counted.ensures) (
       v.asked,
@@ -69,23 +70,23 @@ take-k-requires t c =
       leaf_placed v.asked child r.2,
       h.limited,
       leaf_cost _ r.2 child.parts,
-      best_counted _ _ c.loop-tried.invariant.parts,
+      best_counted _ _ c.loop-left.invariant.parts,
     )
 
 pub walk-k-requires : goal.walk-k-requires
 walk-k-requires t c =
     let v = c.args.vector in
-    let h = c.loop-tried.invariant.state in
-    let more = in_loop v.asked c.loop-tried-test.true in
-    let r = rw (limits_lent c.loop-tried.minima c.loop-tried.invariant.whole) at c.in-Enter.ensures in
+    let h = c.loop-left.invariant.state in
+    let more = in_loop c.labels-left.ensures.value c.loop-left-test.true c.loop-left.auto._left in
+    let r = rw (limits_lent c.loop-left.minima c.loop-left.invariant.whole) at c.in-Enter.ensures in
     let e = c.counted-in-Enter.ensures in
     let placed = c.key_places-places.ensures in (
-      omega (arith, c.decreases, c.loop-tried.invariant.same, h.inner, ap (λ (n : Node). n.level) r.1),
+      omega (arith, c.decreases, c.loop-left.invariant.same, h.inner, ap (λ (n : Node). n.level) r.1),
       (
         rw (r.1, e, placed) (child_asked v.asked h more r.0.took r.0.passes r.0.more),
         (
           rw r.1 r.2,
-          (rw e h.running, (rw (r.1, placed) r.3, rw e (best_counted _ _ c.loop-tried.invariant.parts))),
+          (rw e h.running, (rw (r.1, placed) r.3, rw e (best_counted _ _ c.loop-left.invariant.parts))),
         ),
       ),
     )
@@ -93,63 +94,85 @@ walk-k-requires t c =
 pub returns-then-k-clause-found : goal.returns-then-k-clause-found
 returns-then-k-clause-found t c =
     let v = c.args.vector in
-    let h = c.loop-tried.invariant.state in
-    let more = in_loop v.asked c.loop-tried-test.true in
-    let r = rw (limits_lent c.loop-tried.minima c.loop-tried.invariant.whole) at c.in-Enter.ensures in
+    let h = c.loop-left.invariant.state in
+    let more = in_loop c.labels-left.ensures.value c.loop-left-test.true c.loop-left.auto._left in
+    let r = rw (limits_lent c.loop-left.minima c.loop-left.invariant.whole) at c.in-Enter.ensures in
     stops v.asked h more r.0.took r.0.passes r.0.more _ (rw (r.1, c.counted-in-Enter.ensures) at c.walk-k.ensures.found) c.if-k.true
 
-pub loop-tried-preserved : goal.loop-tried-preserved
-loop-tried-preserved t c =
+pub loop-left-preserved-in-Left : goal.loop-left-preserved-in-Left
+loop-left-preserved-in-Left t c =
     let v = c.args.vector in
-    let l = c.loop-tried in
+    let l = c.loop-left in
     let i = l.invariant in
     let h = i.state in
-    let more = in_loop v.asked c.loop-tried-test.true in
-    elim c.match-advance.branch [
-      | in-Left w ↦
-          let r = rw (limits_lent l.minima i.whole) at w.in-Left.ensures in
-          rw (w.minima-is, w.keys-is, w.k-is, w.parent-is, w.counted-k.ensures) (record {
-            whole = i.whole;
-            same = i.same;
-            state = past v.asked h more r.0.took r.0.passes r.0.more r.1 r.2;
-            parts = best_counted _ _ i.parts;
-          })
-      | in-Leaf w ↦
-          let r = rw (limits_lent l.minima i.whole) at w.in-Leaf.ensures in
-          let e = w.counted.ensures in
-          let child = child_in_lem v.asked h more in
-          let is = rw (r.1, e) at w.take-k.ensures.0 in
-          let runs = ap (λ (x : Kept). x.stopped) is ∙ h.running in
-          rw (w.minima-is, w.keys-is, w.k-is, w.parent-is) (record {
-            whole = w.take-k.ensures.3;
-            same = w.renew_node-parent.ensures.level_is ∙ i.same;
-            state = onward_here v.asked h more r.0.took r.0.passes r.0.more _ (is ∙ leaf_noted v.asked child _ _ r.2 _ _ h.running) runs
-                w.take-k.ensures.2 _ (rw (limits_lent w.take-k.new.minima w.take-k.ensures.3) at w.renew_node-parent.ensures);
-            parts = best_after_lem _ child.parts r.2 (rw (r.1, e) at w.take-k.ensures.4) _ _ is (best_counted _ _ i.parts);
-          })
-      | in-Enter+else-k w ↦
-          let r = rw (limits_lent l.minima i.whole) at w.in-Enter.ensures in
-          let placed = c.key_places-places.ensures in
-          let after = c.advance.new.keys in
-          let q = v.task.width in
-          let many = rw placed at w.walk-k.auto.keys in
-          rw (w.minima-is, w.keys-is, w.k-is, w.parent-is, placed) (record {
-            whole = w.walk-k.array_long;
-            same = w.renew_node-parent-in-Enter.ensures.level_is ∙ i.same;
-            state = onward v.asked h more r.0.took r.0.passes r.0.more _ (rw (r.1, w.counted-in-Enter.ensures) at w.walk-k.ensures.found) w.if-k.false
-                w.walk-k.ensures.limited _ (same_len_mid (key_count q) (length after - key_count q) after w.walk-k.new.keys many) _
-                (rw (limits_lent w.walk-k.new.minima w.walk-k.array_long) at w.renew_node-parent-in-Enter.ensures);
-            parts = w.walk-k.ensures.parts;
-          })
-      | in-Cut w ↦
-          let r = rw (limits_lent l.minima i.whole) at w.in-Cut.ensures in
-          rw (w.minima-is, w.keys-is, w.k-is, w.parent-is) (record {
-            whole = i.whole;
-            same = i.same;
-            state = cut v.asked h more r.0 r.1;
-            parts = i.parts;
-          })
-    ]
+    let more = in_loop c.labels-left.ensures.value c.loop-left-test.true c.loop-left.auto._left in
+    let next = tried_next c.labels-left.ensures.value c.loop-left-test.true c.loop-left.auto._left in
+    let r = rw (limits_lent l.minima i.whole) at c.in-Left.ensures in
+    rw (next, c.counted-k.ensures) (record {
+      whole = i.whole;
+      same = i.same;
+      state = past v.asked h more r.0.took r.0.passes r.0.more r.1 r.2;
+      parts = best_counted _ _ i.parts;
+    })
+
+pub loop-left-preserved-in-Leaf : goal.loop-left-preserved-in-Leaf
+loop-left-preserved-in-Leaf t c =
+    let v = c.args.vector in
+    let l = c.loop-left in
+    let i = l.invariant in
+    let h = i.state in
+    let more = in_loop c.labels-left.ensures.value c.loop-left-test.true c.loop-left.auto._left in
+    let next = tried_next c.labels-left.ensures.value c.loop-left-test.true c.loop-left.auto._left in
+    let r = rw (limits_lent l.minima i.whole) at c.in-Leaf.ensures in
+    let e = c.counted.ensures in
+    let child = child_in_lem v.asked h more in
+    let is = rw (r.1, e) at c.take-k.ensures.0 in
+    let runs = ap (λ (x : Kept). x.stopped) is ∙ h.running in
+    rw next (record {
+      whole = c.take-k.ensures.3;
+      same = c.renew_node-parent.ensures.level_is ∙ i.same;
+      state = onward_here v.asked h more r.0.took r.0.passes r.0.more _ (is ∙ leaf_noted v.asked child _ _ r.2 _ _ h.running) runs
+          c.take-k.ensures.2 _ (rw (limits_lent c.take-k.new.minima c.take-k.ensures.3) at c.renew_node-parent.ensures);
+      parts = best_after_lem _ child.parts r.2 (rw (r.1, e) at c.take-k.ensures.4) _ _ is (best_counted _ _ i.parts);
+    })
+
+pub loop-left-preserved-in-Enter : goal.loop-left-preserved-in-Enter
+loop-left-preserved-in-Enter t c =
+    let v = c.args.vector in
+    let l = c.loop-left in
+    let i = l.invariant in
+    let h = i.state in
+    let more = in_loop c.labels-left.ensures.value c.loop-left-test.true c.loop-left.auto._left in
+    let next = tried_next c.labels-left.ensures.value c.loop-left-test.true c.loop-left.auto._left in
+    let r = rw (limits_lent l.minima i.whole) at c.in-Enter.ensures in
+    let placed = c.key_places-places.ensures in
+    let after = c.advance.new.keys in
+    let q = v.task.width in
+    let many = rw placed at c.walk-k.auto.keys in
+    rw (next, placed) (record {
+      whole = c.walk-k.array_long;
+      same = c.renew_node-parent-in-Enter.ensures.level_is ∙ i.same;
+      state = onward v.asked h more r.0.took r.0.passes r.0.more _ (rw (r.1, c.counted-in-Enter.ensures) at c.walk-k.ensures.found) c.if-k.false
+          c.walk-k.ensures.limited _ (same_len_mid (key_count q) (length after - key_count q) after c.walk-k.new.keys many) _
+          (rw (limits_lent c.walk-k.new.minima c.walk-k.array_long) at c.renew_node-parent-in-Enter.ensures);
+      parts = c.walk-k.ensures.parts;
+    })
+
+pub loop-left-preserved : goal.loop-left-preserved
+loop-left-preserved t c =
+    let v = c.args.vector in
+    let l = c.loop-left in
+    let i = l.invariant in
+    let h = i.state in
+    let more = in_loop c.labels-left.ensures.value c.loop-left-test.true c.loop-left.auto._left in
+    let next = tried_next c.labels-left.ensures.value c.loop-left-test.true c.loop-left.auto._left in
+    let r = rw (limits_lent l.minima i.whole) at c.in-Cut.ensures in
+    rw next (record {
+      whole = i.whole;
+      same = i.same;
+      state = cut v.asked h more r.0 r.1;
+      parts = i.parts;
+    })
 
 pub returns-clause-found : goal.returns-clause-found
-returns-clause-found t c = done c.args.vector.asked c.loop-tried.invariant.state (omega arith)
+returns-clause-found t c = done c.args.vector.asked c.loop-left.invariant.state (omega arith)

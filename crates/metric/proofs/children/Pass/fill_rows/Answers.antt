@@ -4,17 +4,13 @@ use mathlib.Core.List.{List}
 use Prim.Native.Nat.{ℕ, ◌+◌, ◌-◌, ◌*◌, ◌/◌, ◌^◌, ◌≤◌, ◌<◌}
 use native.Mathlib.Nat.{zero-mul}
 use native.Mathlib.Omega.{arith}
-use lib.ListN.{take, drop, length-take, length-drop}
+use lib.ListN.{length, length-take, length-drop}
 use lib.Pow.{pow_mono}
 use lib.Seq.{take-take}
 use Rattle.metric.specs.Parts.{axis_width, span}
 use Rattle.metric.proofs.Grid.{row_room, row_more, row_written, small_part}
 use Rattle.metric.proofs.Pass.{pass_none}
 use Rattle.metric.proofs.children.Pass.fill_rows.Goals as goal
-
--- The parts of the first n imaginary labels, copied and in the axes
-first_parts : (axes parts : List ℕ) (n : ℕ) → parts ≡ take span (drop span axes) → n ≤ span → take n parts ≡ take n (drop span axes)
-first_parts axes parts n e h = ap (take n) e ∙ take-take n span (drop span axes) h
 
 -- A row's places are within the keys
 room : (q a n : ℕ) → n ≡ 2 ^ (q / 2) → a < 2 ^ (q - q / 2) → a * n + n ≤ 2 ^ q
@@ -29,22 +25,17 @@ bounds-axes-a c =
     let few : 2 ^ (c.args.self.now.q - c.args.self.now.q / 2) ≤ span = pow_mono r in
     omega arith
 
-pub slice_bounds-parts-end : goal.slice_bounds-parts-end
-slice_bounds-parts-end c = omega arith
-
 pub slice_bounds-fill_sums-end : goal.slice_bounds-fill_sums-end
-slice_bounds-fill_sums-end c = simp length-take (omega arith)
-
-pub slice_bounds-fill_sums-end-in-loop-a : goal.slice_bounds-fill_sums-end-in-loop-a
-slice_bounds-fill_sums-end-in-loop-a c = omega (arith, room c.args.self.now.q c.loop-a.a c.columns-n.result c.columns-n.ensures.0 (omega arith))
+slice_bounds-fill_sums-end c = omega (arith, room c.args.self.now.q c.loop-a.a c.columns-n.result c.columns-n.ensures.0 (omega arith))
 
 pub fill_sums-requires : goal.fill_sums-requires
 fill_sums-requires c =
     let a = c.args in
-    let s = a.self.now in (
+    let s = a.self.now in
+    let copied = simp (length-take, length-drop) at (ap length c.copy_from_slice.ensures.after) in (
       omega (arith, c.args.self.now.asked.2 c.loop-a.a),
-      rw (first_parts s.axes.now _ c.columns-n.result c.copy_from_slice.ensures.after c.columns-n.ensures.1) (small_part s.axes.now c.args.self.now.asked.2 c.columns-n.result span),
-      simp (length-take, length-drop) (omega (arith, room s.q c.loop-a.a c.columns-n.result c.columns-n.ensures.0 (omega arith))),
+      rw c.copy_from_slice.ensures.after (small_part s.axes.now c.args.self.now.asked.2 _ span),
+      simp (length-take, length-drop) (omega (arith, copied, room s.q c.loop-a.a c.columns-n.result c.columns-n.ensures.0 (omega arith))),
     )
 
 pub loop-a-preserved : goal.loop-a-preserved
@@ -53,6 +44,7 @@ loop-a-preserved c =
     let s = a.self.now in
     let n = c.columns-n.result in
     let whole : c.loop-a.a * n + n - c.loop-a.a * n ≡ n = omega arith in
+    let same : 16 + n - 16 ≡ n = omega arith in
     row_more s.q s.shared s.axes.now c.loop-a.a n a.keys.now c.loop-a.keys _ c.columns-n.ensures.0 c.loop-a.invariant
-    (rw (whole, c.fill_sums.ensures, first_parts s.axes.now _ n c.copy_from_slice.ensures.after c.columns-n.ensures.1)
+    (rw (whole, c.fill_sums.ensures, c.copy_from_slice.ensures.after, same)
     (row_written _ (c.loop-a.a * n) n s.axes.now c.loop-a.keys (omega arith) (omega (arith, room s.q c.loop-a.a n c.columns-n.ensures.0 (omega arith)))))
