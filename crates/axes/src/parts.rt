@@ -47,7 +47,8 @@ fn fill_axis(tables: &[i32; TABLE], at: usize, left: i64, w: usize, parts: &mut 
 }
 
 // What the labels of both axes add to keys at a node, in one array: those of the real labels, then, a span later, those of the imaginary ones.
-// `left` is what remains of y in the row.
+// `left` is what remains of y in the row. Not a method of expansion's `Vector`: that promises the constellation's points, too, which are not
+// asked for here.
 pub fn fill_parts(
     task: Task,
     row: usize,
@@ -58,7 +59,7 @@ pub fn fill_parts(
 )
     requires { VectorAsked task.streams task.width numbers.now
         × Tabled task.streams task.width numbers.now tables.now × (row < task.streams)
-        × (nat_abs left.re < remainder_bound) × (nat_abs left.im < remainder_bound) × (length axes.old ≡ 2 * span) × AllSmall axes.old }
+        × (nat_abs left.re < remainder_bound) × (nat_abs left.im < remainder_bound) × AllSmall axes.old }
     ensures { axes.new
         ≡ parts_in task.width tables.now row left.re left.im axes.old }
 {

@@ -124,8 +124,7 @@ fn fill_entries(
 // What depends on the vector alone: for each axis of each row, the diagonal entry times the amplitude of each axis label, and each label's
 // prior cost.
 pub fn prepare(task: Task, points: &[i8; PLACES], numbers: &[i32], tables: &mut [i32; TABLE])
-    requires { VectorAsked task.streams task.width numbers.now × (length tables.old ≡ table_size)
-        × Points task.width points.now }
+    requires { VectorAsked task.streams task.width numbers.now × Points task.width points.now }
     ensures { tables.new ≡ rows_in task.streams task.width numbers.now task.streams tables.old }
 {
     let m = task.streams;

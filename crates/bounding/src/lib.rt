@@ -91,7 +91,8 @@ fn some_child_below<A: Axis>(
         || (low < second.entries[ones_im] && im.any_below(partial + least_re, low, second))
 }
 
-// The question by the distances alone: `left` is what remains of y in the row.
+// The question by the distances alone: `left` is what remains of y in the row. Not a method of expansion's `Vector`: that promises a table and
+// the constellation's points, too, which are not asked for here.
 pub fn some_child_may_pass(
     task: Task,
     row: usize,
@@ -139,7 +140,8 @@ pub fn priced(q: usize, row: usize, tables: &[i32; TABLE]) -> bool
     axis_priced(&axes[2 * row], q - q / 2) || axis_priced(&axes[2 * row + 1], q / 2)
 }
 
-// The question of `some_child_may_pass`, with prior costs and all: where there are priors it lets fewer nodes through.
+// The question of `some_child_may_pass`, with prior costs and all: where there are priors it lets fewer nodes through. It asks for no vector,
+// but for entries of a table that are small enough.
 pub fn some_child_may_pass_by_parts(
     q: usize,
     row: usize,

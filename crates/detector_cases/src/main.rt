@@ -60,7 +60,7 @@ fn room(item: &[u8]) -> Result<usize, CutOff>
     }
 }
 
-// Runs each test case of the input, up to where that ends within one.
+// Runs each test case of the input, up to where that ends within one. Not a `for`: a turn takes two items.
 fn run_all(rt: &impl Print, input: &[u8]) -> Result<(), CutOff> {
     let mut items = Records::new(input);
     while let Some(record) = items.next() {

@@ -91,8 +91,7 @@ fn fill_least(rows: usize, base: u64, column: u64, axes: &[u64; AXES], least: &m
 // The keys of a node's children, by its partial metric; behind them the smallest of each row, and behind these its column. A row's keys differ
 // by their imaginary parts alone, so the smallest one stands in the same column of each, and differs from another row's by the real part alone.
 pub fn fill(q: usize, partial: u64, axes: &[u64; AXES], keys: &mut [u64])
-    requires { (q ≤ most_width) × (partial < above) × (length axes.now ≡ 2 * span) × AllSmall axes.now
-        × (key_count q ≤ length keys.old) }
+    requires { (q ≤ most_width) × (partial < above) × AllSmall axes.now × (key_count q ≤ length keys.old) }
     ensures { keys.new ≡ keys_in q (partial * cost_room) axes.now keys.old }
 {
     let shared = partial * COST_ROOM;

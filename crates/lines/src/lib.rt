@@ -145,7 +145,7 @@ fn write_sizes(text: &mut Writer<'_>, m: u32, q: u32, n: u32)
     write_field(text, b" vectors ", n);
 }
 
-// The first line: M, Q, N, C and D.
+// The first line: M, Q, N, C and D, and not detector's `Header`, which has more than is printed.
 pub fn write_head(text: &mut Writer<'_>, m: u32, q: u32, n: u32, clip: u32, share: u32)
     requires { text.old.at + 87 ≤ length text.old.buffer.now }
     ensures { (text.new.at ≤ text.old.at + 87) × Writes text.old (head_line m q n clip share) text.new }

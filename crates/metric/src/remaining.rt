@@ -41,7 +41,8 @@ fn term(points: &[i8; PLACES], numbers: &[i32], place: usize, symbol: usize) -> 
     entry(numbers, place) * point(points, symbol)
 }
 
-// What remains of y in a row after the entries right of the diagonal, times the points of the node's symbols.
+// What remains of y in a row after the entries right of the diagonal, times the points of the node's symbols. Not a method of expansion's
+// `Vector`: that promises a table, too, which is not asked for here.
 pub fn remainder(
     points: &[i8; PLACES],
     numbers: &[i32],

@@ -140,7 +140,7 @@ pub fn refusal_number(refusal: Refusal) -> u32
     refusal as u32
 }
 
-// Minus a refusal's number, as a call returns it.
+// Minus a refusal's number, as a call returns it: for C an answer is one number.
 pub fn refused(refusal: Refusal) -> i64
     ensures { result ≡ neg_ℤ (pos (refusal_number refusal)) }
 {

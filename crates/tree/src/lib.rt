@@ -29,7 +29,8 @@ pub struct Node {
 }
 
 // What a search has kept, but for the minima: the best label's metric with its two parts, nodes counted, that label (document 01's m, the MAP
-// hypothesis of the leaves walked), and the mark.
+// hypothesis of the leaves walked), and `stopped`, document 01's mark, which a reply has beside every label: a value of its own, and so no Option
+// round another.
 #[derive(Clone, Copy)]
 pub struct Kept {
     pub best: u64,

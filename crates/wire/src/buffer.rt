@@ -49,7 +49,7 @@ impl<'a> Writer<'a> {
         self.bytes(&opening);
     }
 
-    // Puts n's groups, the low seven bits of what is left first.
+    // Puts n's groups, the low seven bits of what is left first. Not a `for`: how many there are shows as they are put.
     #[inline]
     pub fn number(&mut self, n: u32)
         requires { (n < 2 ^ 28) × (self.old.at + length (bytes_of n) ≤ length self.old.buffer.now) }

@@ -24,7 +24,7 @@ fill_entries-requires c =
     let row = c.loop-row.row in
     let h = c.loop-row-test.true in
     let d : SFits w64 c.element-diagonal.result = search rules in (
-      real_amplitudes c.requires.2 c.requires.0.bits _ (ap (λ (n : ℕ). 2 * n) c.labels.ensures.value),
+      real_amplitudes c.requires.1 c.requires.0.bits _ (ap (λ (n : ℕ). 2 * n) c.labels.ensures.value),
       entries_asked c.requires.0 row h real _ _ (priors_lent c.requires.0 row h real _ (omega arith)) (to_z-of_z d ∙ c.element-diagonal.ensures),
       omega (arith, length-take {A = ℤ}, length-drop {A = ℤ}),
     )
@@ -34,7 +34,7 @@ fill_entries-requires-in-loop-row c =
     let row = c.loop-row.row in
     let h = c.loop-row-test.true in
     let d : SFits w64 c.element-diagonal.result = search rules in (
-      imaginary_amplitudes c.requires.2 c.requires.0.bits,
+      imaginary_amplitudes c.requires.1 c.requires.0.bits,
       entries_asked c.requires.0 row h imaginary _ _ (priors_lent c.requires.0 row h imaginary _ (omega arith)) (to_z-of_z d ∙ c.element-diagonal.ensures),
       omega (arith, length-take {A = ℤ}, length-drop {A = ℤ}),
     )
@@ -49,7 +49,7 @@ loop-row-preserved c =
     let d : SFits w64 c.element-diagonal.result = search rules in
     let size : length c.loop-row.tables ≡ table_size =
     ap length c.loop-row.invariant
-    ∙ (rows_tabled a.task.streams a.task.width a.numbers.now a.tables.now asked.bits c.requires.1 row (omega arith)).size in
+    ∙ (rows_tabled a.task.streams a.task.width a.numbers.now a.tables.now asked.bits c.told-tables row (omega arith)).size in
     rows_more a.task.streams a.task.width a.numbers.now a.tables.now c.loop-row.tables row asked.bits inside size _ _
     (omega arith) (omega arith) _ _ _ c.fill_entries.new.entries c.fill_entries-in-loop-row.new.entries c.loop-row.invariant
     (to_z-of_z d ∙ c.element-diagonal.ensures) (priors_lent asked row h real _ (omega arith)) (priors_lent asked row h imaginary _ (omega arith))

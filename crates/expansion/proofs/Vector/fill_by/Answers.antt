@@ -16,14 +16,14 @@ fill_parts-requires c =
     let v = c.args.self in
     let k = c.requires.0 in
     let r = c.requires.1 in
-    (v.asked.vector, v.tabled, row_inside v.asked k.node k.inner, r.low_re, r.low_im, refl, zeros_small (2 * span))
+    (v.asked.vector, v.tabled, row_inside v.asked k.node k.inner, r.low_re, r.low_im, zeros_small (2 * span))
 
 pub fill-requires : goal.fill-requires
 fill-requires c =
     let v = c.args.self in
     let k = c.requires.0 in
     let w = rw (← c.fill_parts.ensures) at (measured v.asked k.node k.inner v.tabled c.requires.1) in
-    (v.asked.vector.bits, partial_under v.asked k.node, w.size, w.small, room_for c.args.node.level v.task.width k.inner _ k.room)
+    (v.asked.vector.bits, partial_under v.asked k.node, w.small, room_for c.args.node.level v.task.width k.inner _ k.room)
 
 pub returns : goal.returns
 unfolding keys_for
