@@ -60,48 +60,52 @@ fn renew_node(vector: Vector<'_>, node: Node, label: u32, limits: &[u64]) -> Nod
 }
 
 // The search below a node: its children, whose keys are filled in, are tried in order, each cut, counted, taken as a leaf or searched, until
-// they end. The keys of the levels below stand behind them.
+// they end. The keys of the levels below stand behind them. The vector is lent, so that no level hands on a copy.
 fn walk(
-    vector: Vector<'_>,
+    vector: &Vector<'_>,
     node: Node,
     kept: Kept,
     minima: &mut [u64; hypotheses::MINIMA],
     keys: &mut [u64],
 ) -> Kept
-    requires asked { NodeAsked vector.task.streams vector.task.width vector.task.clip vector.numbers.now node
+    requires asked { NodeAsked vector.now.task.streams vector.now.task.width vector.now.task.clip vector.now.numbers.now node
         (taken_in kept.label kept.best minima.old) (limits_of minima.old) keys.old }
     requires inner { 0 < node.level }
     requires running { kept.stopped ≡ false }
-    requires filled { Filled vector.task.streams vector.task.width vector.numbers.now node keys.old }
-    requires parts { BestParts (vector_for vector.task vector.numbers.now) kept }
+    requires filled { Filled vector.now.task.streams vector.now.task.width vector.now.numbers.now node keys.old }
+    requires parts { BestParts (vector_for vector.now.task vector.now.numbers.now) kept }
     ensures found { kept_of result.count result.stopped (taken_in result.label result.best minima.new)
-        ≡ below (vector_for vector.entry.task vector.entry.numbers.now) vector.entry.task.allowance node.level node.bits node.partial
+        ≡ below (vector_for vector.now.task vector.now.numbers.now) vector.now.task.allowance node.level node.bits node.partial
         (kept_of kept.count false (taken_in kept.label kept.best minima.old)) }
-    ensures limited { Limited (vector_for vector.entry.task vector.entry.numbers.now) (taken_in result.label result.best minima.new)
+    ensures limited { Limited (vector_for vector.now.task vector.now.numbers.now) (taken_in result.label result.best minima.new)
         (limits_of minima.new) }
-    ensures parts { BestParts (vector_for vector.entry.task vector.entry.numbers.now) result }
+    ensures parts { BestParts (vector_for vector.now.task vector.now.numbers.now) result }
 {
-    let places = turn::key_places(vector.task.width);
+    // Copied once: the compiler would read what is lent anew after each key that it stores.
+    let own = *vector;
+    // By its range the proof knows that a count below it can grow by one.
+    let _allowance = vector.task.allowance;
+    let places = turn::key_places(own.task.width);
     let mut k = kept;
     let mut parent = node;
     // By how many are left: the compiler would compare a count of those that were tried with 2^Q by a shift, at every turn.
-    for _left in (0..axes::labels(vector.task.width)).rev() {
-        match turn::advance(vector, parent, k, &minima[hypotheses::LIMITS..], keys) {
+    for _left in (0..axes::labels(own.task.width)).rev() {
+        match turn::advance(own, parent, k, &minima[hypotheses::LIMITS..], keys) {
             Turn::Ended => return k,
             Turn::Stop => return halted(k),
             Turn::Left => {
                 k = counted(k);
             }
             Turn::Leaf(leaf) => {
-                k = hypotheses::take(vector.task, leaf, counted(k), vector.numbers, minima);
-                parent = renew_node(vector, parent, k.label, &minima[hypotheses::LIMITS..]);
+                k = hypotheses::take(own.task, leaf, counted(k), own.numbers, minima);
+                parent = renew_node(own, parent, k.label, &minima[hypotheses::LIMITS..]);
             }
             Turn::Enter(child) => {
                 k = walk(vector, child, counted(k), minima, &mut keys[places..]);
                 if k.stopped {
                     return k;
                 }
-                parent = renew_node(vector, parent, k.label, &minima[hypotheses::LIMITS..]);
+                parent = renew_node(own, parent, k.label, &minima[hypotheses::LIMITS..]);
             }
             Turn::Cut => {}
         }
@@ -129,7 +133,7 @@ fn begin(
     ensures parts { BestParts (vector_for vector.entry.task vector.entry.numbers.now) result }
 {
     vector.fill_keys(root, keys);
-    walk(vector, root, kept, minima, keys)
+    walk(&vector, root, kept, minima, keys)
 }
 
 // What a reply says of a vector, but for its soft values, and the label's squared distance. `stopped` is document 01's mark, which the reply

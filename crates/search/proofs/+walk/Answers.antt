@@ -20,7 +20,7 @@ module _ {n total left : ℕ} (is : n ≡ total) (some : 0 < left) (room : left 
 pub loop-left-init : goal.loop-left-init
 loop-left-init t c =
     let w = c.requires.asked in
-    let v = c.args.vector in
+    let v = c.args.vector.now in
     let none : 2 ^ v.task.width - c.labels-left.result ≡ 0 = omega (arith, c.labels-left.ensures.value) in
     record {
       whole = omega arith;
@@ -31,7 +31,7 @@ loop-left-init t c =
 
 pub advance-requires : goal.advance-requires
 advance-requires t c =
-    let v = c.args.vector in
+    let v = c.args.vector.now in
     let h = c.loop-left.invariant.state in
     let more = in_loop c.labels-left.ensures.value c.loop-left-test.true c.loop-left.auto._left in
     rw (limits_lent c.loop-left.minima c.loop-left.invariant.whole) (record {
@@ -44,14 +44,14 @@ advance-requires t c =
 
 pub returns-in-Ended-clause-found : goal.returns-in-Ended-clause-found
 returns-in-Ended-clause-found t c =
-    let v = c.args.vector in
+    let v = c.args.vector.now in
     let h = c.loop-left.invariant.state in
     let more = in_loop c.labels-left.ensures.value c.loop-left-test.true c.loop-left.auto._left in
     ended v.asked h more (rw (limits_lent c.loop-left.minima c.loop-left.invariant.whole) at c.in-Ended.ensures)
 
 pub returns-in-Stop-clause-found : goal.returns-in-Stop-clause-found
 returns-in-Stop-clause-found t c =
-    let v = c.args.vector in
+    let v = c.args.vector.now in
     let h = c.loop-left.invariant.state in
     let more = in_loop c.labels-left.ensures.value c.loop-left-test.true c.loop-left.auto._left in
     let r = rw (limits_lent c.loop-left.minima c.loop-left.invariant.whole) at c.in-Stop.ensures in
@@ -59,7 +59,7 @@ returns-in-Stop-clause-found t c =
 
 pub take-k-requires : goal.take-k-requires
 take-k-requires t c =
-    let v = c.args.vector in
+    let v = c.args.vector.now in
     let h = c.loop-left.invariant.state in
     let more = in_loop c.labels-left.ensures.value c.loop-left-test.true c.loop-left.auto._left in
     let r = rw (limits_lent c.loop-left.minima c.loop-left.invariant.whole) at c.in-Leaf.ensures in
@@ -75,7 +75,7 @@ take-k-requires t c =
 
 pub walk-k-requires : goal.walk-k-requires
 walk-k-requires t c =
-    let v = c.args.vector in
+    let v = c.args.vector.now in
     let h = c.loop-left.invariant.state in
     let more = in_loop c.labels-left.ensures.value c.loop-left-test.true c.loop-left.auto._left in
     let r = rw (limits_lent c.loop-left.minima c.loop-left.invariant.whole) at c.in-Enter.ensures in
@@ -93,7 +93,7 @@ walk-k-requires t c =
 
 pub returns-then-k-clause-found : goal.returns-then-k-clause-found
 returns-then-k-clause-found t c =
-    let v = c.args.vector in
+    let v = c.args.vector.now in
     let h = c.loop-left.invariant.state in
     let more = in_loop c.labels-left.ensures.value c.loop-left-test.true c.loop-left.auto._left in
     let r = rw (limits_lent c.loop-left.minima c.loop-left.invariant.whole) at c.in-Enter.ensures in
@@ -101,7 +101,7 @@ returns-then-k-clause-found t c =
 
 pub loop-left-preserved-in-Left : goal.loop-left-preserved-in-Left
 loop-left-preserved-in-Left t c =
-    let v = c.args.vector in
+    let v = c.args.vector.now in
     let l = c.loop-left in
     let i = l.invariant in
     let h = i.state in
@@ -117,7 +117,7 @@ loop-left-preserved-in-Left t c =
 
 pub loop-left-preserved-in-Leaf : goal.loop-left-preserved-in-Leaf
 loop-left-preserved-in-Leaf t c =
-    let v = c.args.vector in
+    let v = c.args.vector.now in
     let l = c.loop-left in
     let i = l.invariant in
     let h = i.state in
@@ -138,7 +138,7 @@ loop-left-preserved-in-Leaf t c =
 
 pub loop-left-preserved-in-Enter : goal.loop-left-preserved-in-Enter
 loop-left-preserved-in-Enter t c =
-    let v = c.args.vector in
+    let v = c.args.vector.now in
     let l = c.loop-left in
     let i = l.invariant in
     let h = i.state in
@@ -160,7 +160,7 @@ loop-left-preserved-in-Enter t c =
 
 pub loop-left-preserved : goal.loop-left-preserved
 loop-left-preserved t c =
-    let v = c.args.vector in
+    let v = c.args.vector.now in
     let l = c.loop-left in
     let i = l.invariant in
     let h = i.state in
@@ -175,4 +175,4 @@ loop-left-preserved t c =
     })
 
 pub returns-clause-found : goal.returns-clause-found
-returns-clause-found t c = done c.args.vector.asked c.loop-left.invariant.state (omega arith)
+returns-clause-found t c = done c.args.vector.now.asked c.loop-left.invariant.state (omega arith)

@@ -1,12 +1,10 @@
 -- The invariant: the children of the first a real labels have their whole shared metric, and the other places are as before the pass.
-use mathlib.Core.Path.{◌≡◌, sym, ap, ◌∙◌}
-use mathlib.Core.List.{List}
+use mathlib.Core.Path.{◌≡◌, sym, ap}
 use Prim.Native.Nat.{ℕ, ◌+◌, ◌-◌, ◌*◌, ◌/◌, ◌^◌, ◌≤◌, ◌<◌}
 use native.Mathlib.Nat.{zero-mul}
 use native.Mathlib.Omega.{arith}
 use lib.ListN.{length, length-take, length-drop}
 use lib.Pow.{pow_mono}
-use lib.Seq.{take-take}
 use Rattle.metric.specs.Parts.{axis_width, span}
 use Rattle.metric.proofs.Grid.{row_room, row_more, row_written, small_part}
 use Rattle.metric.proofs.Pass.{pass_none}
