@@ -24,7 +24,7 @@ pub fn write_head(reply: &mut Writer<'_>, m: usize, q: usize, n: usize)
     reply.number(n as u32);
 }
 
-// Soft values, folded.
+// Soft values, folded. Not one function with that of lines, which puts other bytes for a value: over a closure it would be as long as both.
 pub fn write_soft(reply: &mut Writer<'_>, soft: &[i32])
     requires { SoftAsked reply.old.at soft.now (length reply.old.buffer.now) }
     ensures { Writes reply.old (written (map folded soft.now)) reply.new }

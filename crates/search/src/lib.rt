@@ -90,6 +90,7 @@ fn walk(
     let mut parent = node;
     // By how many are left: the compiler would compare a count of those that were tried with 2^Q by a shift, at every turn.
     for _left in (0..axes::labels(own.task.width)).rev() {
+        // Not closures: every arm may change the minima, the keys and what is kept, which two closures can't borrow at once.
         match turn::advance(own, parent, k, &minima[hypotheses::LIMITS..], keys) {
             Turn::Ended => return k,
             Turn::Stop => return halted(k),
@@ -154,7 +155,7 @@ fn empty_side(stopped: bool, weak: u32, clip: u32) -> u32
 }
 
 // One vector's search under an allowance of M nodes or more: its answer, the soft values at the front of `soft`. `weak` is W, which the walk is
-// not told; `points` are those of the constellation, and `keys` is room to work in.
+// not told; `points` are those of the constellation, and `keys` is room to work in. Not over a `Vector`, since this contract is to stay.
 pub fn search_vector(
     task: Task,
     weak: u32,
