@@ -2,11 +2,13 @@
 // that fails: document 01, "The record" and "Where a record is turned back", with document 02's 15 to 17.
 #![tactic(auto)]
 
-ghost use Rattle.std.specs.Prelude.{◌≡◌, [], ◌∷◌, ◌+◌, ◌<◌, ◌≤◌, ◌^◌, length, replicate, take};
+ghost use Rattle.std.specs.Prelude.{ℕ, Ok, ◌≡◌, [], ◌∷◌, ◌+◌, ◌<◌, ◌≤◌, ◌^◌, length, replicate, take};
+ghost use Rattle.wire.specs.Cursor.{with_place, ended};
 ghost use Rattle.block.specs.Reading.{opening, whole_of, by_number, one_at, Sure, kinds_of, Small, most_numbers, header_size, numbers_at, runs_of, part_at, starts_with, layout_of, size_stage, limit_stage, vector_stage, stages_at, read_record, read_whole, got, into, StreamsStored, SizesStored};
 
 use block::{Layout, MOST_NUMBERS, Part, count_at, vector_start};
 use refusals::{Kind, Refusal, allowed, is_folded, refusal_of};
+use wire::Cursor;
 
 // The number whose groups were read: unfolded where its kind is folded.
 fn whole(kind: Kind, n: u32) -> i32
@@ -21,13 +23,13 @@ fn whole(kind: Kind, n: u32) -> i32
 }
 
 // A number whose groups were read, ranged.
-fn ranged(kind: Kind, n: u32, next: usize) -> Result<(i32, usize), Refusal>
+fn ranged(kind: Kind, n: u32) -> Result<i32, Refusal>
     requires { n < 2 ^ 28 }
-    ensures { result ≡ by_number kind (Ok (n, next)) }
+    ensures { (next : ℕ) → with_place result next ≡ by_number kind (Ok (n, next)) }
 {
     let z = whole(kind, n);
     if allowed(kind, z) {
-        return Ok((z, next));
+        return Ok(z);
     }
     Err(refusal_of(kind, z))
 }
@@ -46,98 +48,97 @@ fn sure_below(kind: Kind) -> u32
 }
 
 // One number, read and then ranged. The bound is its kind's, so that the kind is looked at once for a run.
-fn read_one(bytes: &[u8], at: usize, kind: Kind, sure: u32) -> Result<(i32, usize), Refusal>
+fn read_one(cursor: &mut Cursor<'_>, kind: Kind, sure: u32) -> Result<i32, Refusal>
     requires { Sure kind sure }
-    ensures { result ≡ one_at kind bytes.now at }
+    ensures same_bytes { cursor.new.bytes ≡ cursor.old.bytes }
+    ensures found { with_place result cursor.new.at ≡ one_at kind cursor.old.bytes.now cursor.old.at }
 {
-    let (n, next) = wire::read_number(bytes, at)?;
+    let n = cursor.number()?;
     if n < sure {
-        return Ok((wire::unfold(n), next));
+        return Ok(wire::unfold(n));
     }
-    ranged(kind, n, next)
+    ranged(kind, n)
 }
 
 // Numbers of one kind, as many as the lent list has places.
-fn read_run(bytes: &[u8], at: usize, kind: Kind, numbers: &mut [i32]) -> Result<usize, Refusal>
-    ensures { got result numbers.new ≡ into 0 (numbers_at (replicate (length numbers.old) kind) bytes.now at) numbers.old }
+fn read_run(cursor: &mut Cursor<'_>, kind: Kind, numbers: &mut [i32]) -> Result<(), Refusal>
+    ensures same_bytes { cursor.new.bytes ≡ cursor.old.bytes }
+    ensures found { got (ended result cursor.new.at) numbers.new
+        ≡ into 0 (numbers_at (replicate (length numbers.old) kind) cursor.old.bytes.now cursor.old.at) numbers.old }
 {
     let sure = sure_below(kind);
-    let mut place = at;
     for number in numbers.iter_mut() {
-        (*number, place) = read_one(bytes, place, kind, sure)?;
+        *number = read_one(cursor, kind, sure)?;
     }
-    Ok(place)
+    Ok(())
 }
 
 // A part of a record, run by run, into the front of the lent list.
-fn read_part(bytes: &[u8], at: usize, part: Part, numbers: &mut [i32]) -> Result<usize, Refusal>
+fn read_part(cursor: &mut Cursor<'_>, part: Part, numbers: &mut [i32]) -> Result<(), Refusal>
     requires { Small part × (length (kinds_of (runs_of part)) ≤ length numbers.old) }
-    ensures { got result numbers.new ≡ into 0 (part_at part bytes.now at) numbers.old }
+    ensures same_bytes { cursor.new.bytes ≡ cursor.old.bytes }
+    ensures found { got (ended result cursor.new.at) numbers.new ≡ into 0 (part_at part cursor.old.bytes.now cursor.old.at) numbers.old }
 {
-    let mut place = at;
     let mut from = 0;
     for i in 0..part.run_count() {
         let run = part.run_at(i);
         let end = from + run.count;
-        place = read_run(bytes, place, run.kind, &mut numbers[from..end])?;
+        read_run(cursor, run.kind, &mut numbers[from..end])?;
         from = end;
     }
-    Ok(place)
+    Ok(())
 }
 
 // N vectors, each behind its owner if the layout has owners, behind W and D.
 fn read_vectors(
-    bytes: &[u8],
-    at: usize,
+    cursor: &mut Cursor<'_>,
     layout: Layout,
     numbers: &mut [i32; MOST_NUMBERS],
-) -> Result<usize, Refusal>
+) -> Result<(), Refusal>
     requires { SizesStored numbers.old }
-    ensures { got result numbers.new
-        ≡ into (header_size layout) (numbers_at (vector_stage layout numbers.old) bytes.now at) numbers.old }
+    ensures { got (ended result cursor.new.at) numbers.new
+        ≡ into (header_size layout) (numbers_at (vector_stage layout numbers.old) cursor.old.bytes.now cursor.old.at) numbers.old }
 {
     let m = count_at(numbers, 0) as usize;
     let q = count_at(numbers, 1) as usize;
     let n = count_at(numbers, 2) as usize;
     let vector = Part::Vector(layout.own_count(), m, q);
-    let mut place = at;
     for k in 0..n {
         let first = vector_start(layout, m, q, k);
-        place = read_part(bytes, place, vector, &mut numbers[first..])?;
+        read_part(cursor, vector, &mut numbers[first..])?;
     }
-    Ok(place)
+    Ok(())
 }
 
 // W, if the layout has it, and D, then N vectors, behind M, Q, N and C, which stand in the list.
 fn read_limited(
-    bytes: &[u8],
-    at: usize,
+    cursor: &mut Cursor<'_>,
     layout: Layout,
     numbers: &mut [i32; MOST_NUMBERS],
-) -> Result<usize, Refusal>
+) -> Result<(), Refusal>
     requires { SizesStored numbers.old }
-    ensures { got result numbers.new
-        ≡ into 4 (stages_at (limit_stage layout ∷ vector_stage layout ∷ []) (take 4 numbers.old) bytes.now at) numbers.old }
+    ensures { got (ended result cursor.new.at) numbers.new
+        ≡ into 4 (stages_at (limit_stage layout ∷ vector_stage layout ∷ []) (take 4 numbers.old) cursor.old.bytes.now cursor.old.at) numbers.old }
 {
     let limits = Part::Limits(layout.weak_count(), numbers[0], numbers[3]);
-    let next = read_part(bytes, at, limits, &mut numbers[4..])?;
-    read_vectors(bytes, next, layout, numbers)
+    read_part(cursor, limits, &mut numbers[4..])?;
+    read_vectors(cursor, layout, numbers)
 }
 
 // Q, N and C, then what they call for, behind M, which stands in the list.
 fn read_sized(
-    bytes: &[u8],
-    at: usize,
+    cursor: &mut Cursor<'_>,
     layout: Layout,
     numbers: &mut [i32; MOST_NUMBERS],
-) -> Result<usize, Refusal>
+) -> Result<(), Refusal>
     requires { StreamsStored numbers.old }
-    ensures { got result numbers.new
-        ≡ into 1 (stages_at (size_stage ∷ limit_stage layout ∷ vector_stage layout ∷ []) (take 1 numbers.old) bytes.now at) numbers.old }
+    ensures { got (ended result cursor.new.at) numbers.new
+        ≡ into 1 (stages_at (size_stage ∷ limit_stage layout ∷ vector_stage layout ∷ []) (take 1 numbers.old) cursor.old.bytes.now cursor.old.at)
+            numbers.old }
 {
     let sizes = Part::Sizes(numbers[0]);
-    let next = read_part(bytes, at, sizes, &mut numbers[1..])?;
-    read_limited(bytes, next, layout, numbers)
+    read_part(cursor, sizes, &mut numbers[1..])?;
+    read_limited(cursor, layout, numbers)
 }
 
 // Does the record begin with the opening of a layout?
@@ -168,8 +169,11 @@ pub fn read_record(bytes: &[u8], numbers: &mut [i32; MOST_NUMBERS]) -> Result<us
     if !has_opening(bytes, layout) {
         return Err(Refusal::Opening);
     }
-    let next = read_part(bytes, 4, Part::First, numbers)?;
-    read_sized(bytes, next, layout, numbers)
+    // behind the opening
+    let mut cursor = Cursor { bytes, at: 4 };
+    read_part(&mut cursor, Part::First, numbers)?;
+    read_sized(&mut cursor, layout, numbers)?;
+    Ok(cursor.at)
 }
 
 // The same of bytes that are one record and no more.

@@ -13,7 +13,7 @@ use lib.Dec.{eqb, lit<}
 use lib.ListN.{length, get_or, drop, drop_of_length-le}
 use lib.Pow.{shl_exact}
 use lib.Seq.{drop-cons}
-use Rattle.std.specs.Prelude.{Result, Ok, Err}
+use Rattle.std.specs.Prelude.{Result, Ok, Err, IsErrAnd}
 use Rattle.wire.specs.declared.NumberError.TheVariants.{Short, Malformed}
 use Rattle.wire.specs.Reading.{Number, above_digits, last_group, groups, number_at, number_refusal}
 use Rattle.wire.proofs.Writing.{weight}
@@ -21,6 +21,11 @@ use Rattle.wire.proofs.Writing.{weight}
 -- The same pair was read
 pub ok_is : {A B E : Type 0} {a c : A} {b d : B} → ◌≡◌ {A = Result (A × B) E} (Ok (a, b)) (Ok (c, d)) → (a ≡ c) × (b ≡ d)
 ok_is {A} {B} {E} {a} {c} {b} {d} e = let p : ◌≡◌ {A = A × B} (a, b) (c, d) = cc in (ap (λ (x : A × B). x.0) p, ap (λ (x : A × B). x.1) p)
+
+-- What the exit of a `?` returns
+pub err_is : {A E : Type 0} {e : E} (r : Result A E) → IsErrAnd r (λ y. y ≡ e) → r ≡ Err e
+err_is (Ok a) h = absurd h
+err_is (Err y) h = ap Err h
 
 module _ (g : ℕ) (first : Bool) (at b : ℕ) (l : List ℕ) where
   -- A group without the high bit is the last

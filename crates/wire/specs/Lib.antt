@@ -3,3 +3,4 @@ pub mod Reading
 pub mod Writing
 pub mod Folding
 pub mod Writer
+pub mod Cursor

@@ -3,55 +3,20 @@
 #![tactic(auto)]
 
 ghost use Rattle.std.specs.Prelude.{◌≡◌, ◌+◌, ◌<◌, ◌≤◌, ◌^◌, length};
-ghost use Rattle.wire.specs.Reading.{number_at, Sound};
 ghost use Rattle.wire.specs.Writing.{bytes_of, put};
 ghost use Rattle.wire.specs.Folding.{folded, unfolded};
 
 mod buffer;
+mod cursor;
 
 pub use buffer::Writer;
+pub use cursor::Cursor;
 
 // Why no number is found at a place: the bytes end too early, or the groups are no number's.
 #[derive(Clone, Copy, Debug, PartialEq, Eq)]
 pub enum NumberError {
     Short,
     Malformed,
-}
-
-// The number at a place, and the place after it. Where the first byte has no high bit it is the whole number, and nothing is put together.
-pub fn read_number(bytes: &[u8], at: usize) -> Result<(u32, usize), NumberError>
-    ensures { (result ≡ number_at bytes.now at) × Sound result (length bytes.now) }
-{
-    if at < bytes.len() {
-        let first = bytes[at];
-        if first < 128 {
-            return Ok((first as u32, at + 1));
-        }
-    }
-    read_groups(bytes, at)
-}
-
-// The same by shift and mask, group by group. After k groups the value is below 2 to the 7k, so the next seven bits are free.
-fn read_groups(bytes: &[u8], at: usize) -> Result<(u32, usize), NumberError>
-    ensures { (result ≡ number_at bytes.now at) × Sound result (length bytes.now) }
-{
-    let mut value: u32 = 0;
-    let mut place = at;
-    for k in 0..4u32 {
-        if bytes.len() <= place {
-            return Err(NumberError::Short);
-        }
-        let b = bytes[place];
-        value |= ((b & 127) as u32) << (7 * k);
-        place += 1;
-        if b < 128 {
-            if b == 0 && 0 < k {
-                return Err(NumberError::Malformed);
-            }
-            return Ok((value, place));
-        }
-    }
-    Err(NumberError::Malformed)
 }
 
 // How many groups n has.

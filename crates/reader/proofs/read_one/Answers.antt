@@ -1,9 +1,9 @@
 -- A number below the bound is taken, any other is ranged; where none can be read, it is refused as the definition says.
-use mathlib.Core.Path.{sym, ap, ◌∙◌}
-use Rattle.std.proofs.lemmas.Result.{err_from_is_err_and}
+use Rattle.std.proofs.Common.{ap}
+use Rattle.wire.proofs.Reading.{err_is}
 use Rattle.block.specs.Reading.{by_number}
 use Rattle.reader.proofs.read_one.Goals as goal
 
-pub returns-in_err-n : goal.returns-in_err-n
+pub returns-in_err-n-clause-found : goal.returns-in_err-n-clause-found
 unfolding by_number
-returns-in_err-n c = let p = err_from_is_err_and c.from_residual.result c.from_residual.ensures.1 in rw (p.1, p.2) (sym (ap (by_number _) (sym c.read_number.ensures.0 ∙ c.in_err-n.was)))
+returns-in_err-n-clause-found c = rw (err_is _ c.from_residual.ensures.1) (ap (by_number _) c.in_err-n.ensures.found.0)

@@ -8,5 +8,7 @@ use Rattle.reader.proofs.read_part.Given as goal
 abbrev pub invariant-loop-i : goal.invariant-loop-i
 invariant-loop-i l = record {
   room : l.from + length (kinds_of (drop l.i (runs_of l.part))) ≤ length l.initial.numbers;
-  is : into 0 (part_at l.part l.bytes l.at) l.initial.numbers ≡ into l.from (numbers_at (kinds_of (drop l.i (runs_of l.part))) l.bytes l.place) l.numbers;
+  same : l.cursor.bytes ≡ l.initial.cursor.bytes;
+  is : into 0 (part_at l.part l.initial.cursor.bytes.now l.initial.cursor.at) l.initial.numbers
+      ≡ into l.from (numbers_at (kinds_of (drop l.i (runs_of l.part))) l.cursor.bytes.now l.cursor.at) l.numbers;
 }

@@ -7,7 +7,7 @@ use lib.ListN.{get_or}
 use mir.Syntax.{w32}
 use mir.Val.{SFits, to_z, of_z}
 use mir.Facts.{to_z-of_z}
-use Rattle.std.proofs.lemmas.Result.{err_from_is_err_and}
+use Rattle.wire.proofs.Reading.{err_is}
 use Rattle.block.specs.Reading.{kinds_of, runs_of, part_kinds}
 use Rattle.block.specs.declared.Part.TheVariants.{Sizes}
 use Rattle.block.proofs.Lending.{tail_room}
@@ -23,20 +23,19 @@ read_part-requires c =
 pub read_limited-requires : goal.read_limited-requires
 read_limited-requires c =
     let m : SFits w32 (get_or c.args.numbers.now 0 (pos 0)) = search rules in
-    let read = simp to_z-of_z at c.in_ok-next.ensures in
-    sizes_stored c.args.layout _ _ _ _ _ c.requires (sizes_lent c.args.bytes.now c.args.at c.args.numbers.now c.requires _ _ read)
+    let read = simp to_z-of_z at c.in_ok-read_part.ensures.found in
+    sizes_stored c.args.layout _ _ _ _ _ c.requires (sizes_lent c.args.cursor.now.bytes.now c.args.cursor.now.at c.args.numbers.now c.requires _ _ read)
 
-pub returns-in_err-next : goal.returns-in_err-next
-returns-in_err-next c =
+pub returns-in_err-read_part : goal.returns-in_err-read_part
+returns-in_err-read_part c =
     let m : SFits w32 (get_or c.args.numbers.now 0 (pos 0)) = search rules in
-    let read = simp to_z-of_z at c.in_err-next.ensures in
-    let p = err_from_is_err_and c.from_residual.result c.from_residual.ensures.1 in
-    rw (p.1, p.2)
-    (sym (sizes_refused c.args.layout _ _ _ _ _ (sizes_lent c.args.bytes.now c.args.at c.args.numbers.now c.requires _ _ read)))
+    let read = simp to_z-of_z at c.in_err-read_part.ensures.found in
+    rw (err_is _ c.from_residual.ensures.1)
+    (sym (sizes_refused c.args.layout _ _ _ _ _ (sizes_lent c.args.cursor.now.bytes.now c.args.cursor.now.at c.args.numbers.now c.requires _ _ read)))
 
 pub returns : goal.returns
 returns c =
     let m : SFits w32 (get_or c.args.numbers.now 0 (pos 0)) = search rules in
-    let read = simp to_z-of_z at c.in_ok-next.ensures in
-    c.read_limited.ensures
-    ∙ sym (sizes_ended c.args.layout _ _ _ _ _ c.requires (sizes_lent c.args.bytes.now c.args.at c.args.numbers.now c.requires _ _ read))
+    let read = simp to_z-of_z at c.in_ok-read_part.ensures.found in
+    rw c.read_part.ensures.same_bytes at c.read_limited.ensures
+    ∙ sym (sizes_ended c.args.layout _ _ _ _ _ c.requires (sizes_lent c.args.cursor.now.bytes.now c.args.cursor.now.at c.args.numbers.now c.requires _ _ read))

@@ -8,6 +8,6 @@ use Rattle.reader.proofs.read_vectors.Given as goal
 abbrev pub invariant-loop-k : goal.invariant-loop-k
 invariant-loop-k l = record {
   long : length l.numbers ≡ most_numbers;
-  is : into (header_size l.layout) (numbers_at (vector_stage l.layout l.initial.numbers) l.bytes l.at) l.initial.numbers
-      ≡ into (header_size l.layout + l.k * owned_size (own_count l.layout) l.m l.q) (numbers_at (vector_kinds (l.n - l.k) (own_count l.layout) l.m l.q) l.bytes l.place) l.numbers;
+  is : into (header_size l.layout) (numbers_at (vector_stage l.layout l.initial.numbers) l.initial.cursor.bytes.now l.initial.cursor.at) l.initial.numbers
+      ≡ into (header_size l.layout + l.k * owned_size (own_count l.layout) l.m l.q) (numbers_at (vector_kinds (l.n - l.k) (own_count l.layout) l.m l.q) l.cursor.bytes.now l.cursor.at) l.numbers;
 }

@@ -1,6 +1,6 @@
 -- Only where the record ended before the last byte is there a further refusal.
 use borrow.Author.Tests.{lt-ltb, le-ltb}
-use Rattle.std.proofs.lemmas.Result.{err_from_is_err_and}
+use Rattle.wire.proofs.Reading.{err_is}
 use Rattle.block.proofs.Parts.{whole_ended, whole_refused}
 use Rattle.reader.proofs.read_whole.Goals as goal
 
@@ -14,5 +14,4 @@ returns c =
 
 pub returns-in_err-at : goal.returns-in_err-at
 returns-in_err-at c =
-    let p = err_from_is_err_and c.from_residual.result c.from_residual.ensures.1 in
-    rw (p.1, p.2) (whole_refused _ _ _ _ (rw c.in_err-at.was at c.read_record.ensures))
+    rw (err_is _ c.from_residual.ensures.1) (whole_refused _ _ _ _ (rw c.in_err-at.was at c.read_record.ensures))
