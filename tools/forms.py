@@ -8,22 +8,23 @@ SOURCES = sorted(glob.glob("crates/*/src/*.rt"))
 PROOFS = sorted(glob.glob("crates/*/proofs/**/*.antt", recursive=True))
 ANSWERS = [p for p in PROOFS if p.endswith(("Answers.antt", "Invariants.antt"))]
 NUMBERED = r"fn (refusal_number|refused|returned|reply_to|geckoneedle_\w+|write_in|hand_over)\([^{;]*?-> (i64|u32)"
-# What the library has a name for: the larger of two, a distance, a true or false of a match, a struct with one field changed, four bytes one by one.
+# What the library has a name for, by its shape and not by our names.
 BY_HAND = {
     "the smaller, the larger, a distance or a magnitude by if": r"if ([\w.]+) (<|<=) ([\w.]+) \{ (\1|\3|\3 - \1|\(-1 - \1\) as u64 \+ 1)( as \w+)? \}",
+    "a least one by if": r"if (\w+) < (\w+(?:\[\w+\])?) \{\n(?:[^}\n]*\n)?\s+\2 = \1;",
+    "a high end and a low end by if": r"if (\w+) <= (\w+) \{\n\s+\1 as \w+\n\s+\} else if \2 <= ",
     "a match of trues and falses": r"=> (true|false),\n\s+\w+::\w+(\(_\))? => (true|false),",
-    "a test of one value after another": r"if between\(z, \d+, \d+\) \{\n\s+return true",
+    "a test of one value after another": r"if (\w+)\((\w+), (\d+), \3\) \{\n\s+return true",
     "a 0 or 1 of a bool": r"\{\n\s+return [01];\n\s+\}\n\s+[01]\n",
-    "a struct that is copied field by field": r"(\w+): (kept|node)\.\1,\n\s+(\w+): \2\.\3,",
-    "places that are written one by one": r"buffer\[0\] = opening\[0\];",
-    "a number of two bytes": r"256 \* \(input\[",
-    "a digit of base sixteen": r"48 \+ d",
-    "bytes that are compared or copied one by one": r"if (first|bytes)\[i\] != |\w+\[[\w +]+\] = (axes\[SPAN \+ g\]|list\[i\]|bytes\[i\]|column|table\[2 \* s\]);",
-    "an order that is asked number by number": r"if leaf\.\w+ != kept\.\w+ \{",
-    "a number of a kind by if": r"if opening == 1 \{",
-    "a number of a variant by match": r"Refusal::\w+ => 1,",
-    "a least one by if": r"if d < least\[i\] \{|if part < least \{",
-    "a high end and a low end by if": r"if high <= z \{",
+    "a struct that is copied field by field": r"(\w+): (\w+)\.\1,\n\s+(\w+): \2\.\3,",
+    "places that are written one by one": r"(\w+)\[0\] = (\w+)\[0\];\n\s+\1\[1\] = \2\[1\];",
+    "items that are copied or compared one by one": r"^ +(?:while (\w+) < [^{]+|for (\w+) in [^{]+)\{\n\s+(if \w+\[\w+\] != |\w+\[[^\]]*\] = \w+(\[[^\]]*\])?;)",
+    "a number of two bytes": r"\+ 256 \* \(",
+    "a digit of base sixteen": r"if \w+ < 10 \{ 48 \+ ",
+    "an order that is asked number by number": r"if (\w+)\.(\w+) != (\w+)\.\w+ \{\n\s+return \1\.\2 < ",
+    "a variant of a number by if": r"if (\w+) == 1 \{\n\s+return \w+::",
+    "a number of a variant by match": r"\w+::\w+ => 1,\n\s+\w+::\w+ => 2,",
+    "a call of integers that the library has a method for": r"integers::(magnitude|larger|clip)\(",
 }
 
 
@@ -70,6 +71,7 @@ def report():
     yield "2 sizes told to the compiler by a call with a constant", found(r"^    if (w|n|q|rows) == (\d+) \{\n +return \w+\([^;]*\b\2\b")
     yield "3 loops by while", found(r"^ *(while|loop) ")
     yield "3 loops that count an index by hand", counted_loops()
+    yield "3 `for` over an index", found(r"for \w+ in (0|1|\w+)\.\.|for \w+ in \(\w+\.\.")
     for name, pattern in BY_HAND.items():
         yield "4 " + name, found(pattern)
     yield "5 functions of six or more parameters", [f"{p}: {n} {len(a)}" for p, n, a in whole if len(a) > 5]

@@ -75,6 +75,7 @@ pub struct Stopped {
 
 // Reads until the buffer is full or the input ends; how many bytes of the input then stand at its start. Those that were read before a read
 // failed stand there, too.
+// Not `read_exact`: its contract says nothing of what was read where it fails.
 #[tactic(auto, using(crate::proofs::Reading::read_more))]
 pub fn read_full<R: Read>(input: &mut R, buffer: &mut [u8]) -> Result<usize, Stopped>
     ensures in_bounds { IsPrefixLen (filled result) buffer.new }

@@ -85,8 +85,7 @@ pub fn set_aside(numbers: &[i32], h: Header) -> [u32; SPARES]
 }
 
 // Vector k, from 0, is searched under an allowance: what the reply says of it, its soft values at the front of `soft`, and its label's squared
-// distance. The call `geckoneedle_detect` makes bytes of this, the listing text. Its parameters stay apart, since this
-// contract is to stay.
+// distance. The call `geckoneedle_detect` makes bytes of this, the listing text.
 pub fn search_one(
     numbers: &[i32],
     h: Header,

@@ -134,7 +134,7 @@ fn read_sized(
     requires { StreamsStored numbers.old }
     ensures { got (ended result cursor.new.at) numbers.new
         ≡ into 1 (stages_at (size_stage ∷ limit_stage layout ∷ vector_stage layout ∷ []) (take 1 numbers.old) cursor.old.bytes.now cursor.old.at)
-            numbers.old }
+        numbers.old }
 {
     let sizes = Part::Sizes(numbers[0]);
     read_part(cursor, sizes, &mut numbers[1..])?;

@@ -155,7 +155,8 @@ fn empty_side(stopped: bool, weak: u32, clip: u32) -> u32
 }
 
 // One vector's search under an allowance of M nodes or more: its answer, the soft values at the front of `soft`. `weak` is W, which the walk is
-// not told; `points` are those of the constellation, and `keys` is room to work in. Not over a `Vector`, since this contract is to stay.
+// not told; `points` are those of the constellation, and `keys` is room to work in. Not over a
+// `Vector`: it makes the table that one must already have.
 pub fn search_vector(
     task: Task,
     weak: u32,
