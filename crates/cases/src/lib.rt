@@ -11,7 +11,6 @@ ghost use Rattle.cases.specs.Filled.{filled};
 
 use std::io;
 use std::io::Read;
-use std::ops::Range;
 
 // The input ends within a test record.
 #[derive(Clone, Copy)]
@@ -43,7 +42,7 @@ impl<'a> Iterator for Records<'a> {
         if self.input.len() <= self.at {
             return None;
         }
-        let Some(Range { start, end }) = case_at(self.input, self.at) else {
+        let Some(Case { start, end }) = case_at(self.input, self.at) else {
             self.at = self.input.len();
             return Some(Err(CutOff));
         };
@@ -52,8 +51,15 @@ impl<'a> Iterator for Records<'a> {
     }
 }
 
+// Where a test record lies in the input: from one place up to another. A `Range` would be no Copy.
+#[derive(Clone, Copy)]
+pub struct Case {
+    pub start: usize,
+    pub end: usize,
+}
+
 // Where the test record lies whose length stands at a place of the input; none where the input ends before.
-pub fn case_at(input: &[u8], at: usize) -> Option<Range<usize>>
+pub fn case_at(input: &[u8], at: usize) -> Option<Case>
     requires { at < length input.now }
     ensures { (result ≡ case_at input.now at) × Within at (length input.now) result }
 {
@@ -63,7 +69,8 @@ pub fn case_at(input: &[u8], at: usize) -> Option<Range<usize>>
         return None;
     }
     let start = at + 2;
-    Some(start..start + length)
+    let end = start + length;
+    Some(Case { start, end })
 }
 
 // A read failed, and how many bytes were read before it.
@@ -77,7 +84,7 @@ pub struct Stopped {
 // failed stand there, too.
 // Not `read_exact`: its contract says nothing of what was read where it fails.
 #[tactic(auto, using(crate::proofs::Reading::read_more))]
-pub fn read_full<R: Read>(input: &mut R, buffer: &mut [u8]) -> Result<usize, Stopped>
+pub fn try_read_full<R: Read>(input: &mut R, buffer: &mut [u8]) -> Result<usize, Stopped>
     ensures in_bounds { IsPrefixLen (filled result) buffer.new }
     ensures bytes { Consumes (R.remaining input.old) (R.remaining input.new) (take (filled result) buffer.new) }
     ensures end { IfOk result (λ n. n < length buffer.new → IsAtEnd (R.remaining input.new)) }
@@ -91,4 +98,12 @@ pub fn read_full<R: Read>(input: &mut R, buffer: &mut [u8]) -> Result<usize, Sto
         }
     }
     Ok(n)
+}
+
+// The same, where a read that fails ends the input.
+pub fn read_full<R: Read>(input: &mut R, buffer: &mut [u8]) -> usize
+    ensures in_bounds { IsPrefixLen result buffer.new }
+    ensures bytes { Consumes (R.remaining input.old) (R.remaining input.new) (take result buffer.new) }
+{
+    try_read_full(input, buffer).unwrap_or_else(|stopped| stopped.count)
 }

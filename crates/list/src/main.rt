@@ -1,7 +1,7 @@
 // The listing program: a block record comes in by standard input, its listing goes out by standard
 // output. The work is done over any reader and any writer, whose bytes a contract can name. Proved
 // is that no more bytes are counted as read than the buffer has, that they are those that the
-// reader gave (cases `read_full`), and that what a writer took is the listing of these, or a front of
+// reader gave (cases `try_read_full`), and that what a writer took is the listing of these, or a front of
 // it where it failed. That standard input and output are such a reader and writer is not proved: the
 // program is run, and held to stored outputs.
 #![tactic(auto)]
@@ -49,7 +49,7 @@ fn print<W: Write>(output: &mut W, record: &[u8]) -> io::Result<()>
 // What standard error does not take is passed over.
 fn main(rt: HostRuntime) {
     let mut input = [0u8; INPUT];
-    let Ok(n) = cases::read_full(&mut rt.stdin(), &mut input) else {
+    let Ok(n) = cases::try_read_full(&mut rt.stdin(), &mut input) else {
         let _ = eprintln!(rt; "Standard input could not be read.");
         return;
     };

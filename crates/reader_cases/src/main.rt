@@ -85,7 +85,9 @@ fn checksum(numbers: &[i32]) -> u64
 }
 
 // Reads one test record and writes its line. A line that can not be written is passed over.
-fn run(rt: &impl Print, record: &[u8], numbers: &mut [i32; MOST_NUMBERS]) {
+fn run(rt: &impl Print, record: &[u8], numbers: &mut [i32; MOST_NUMBERS])
+    ensures { length numbers.new ≡ most_numbers }
+{
     let _ = match reader::read_whole(record, numbers) {
         Ok(_) => {
             let last = last_byte(record);
@@ -116,6 +118,6 @@ fn run_all(rt: &impl Print, input: &[u8]) {
 // Where a read fails, the records that were read before are run.
 fn main(rt: HostRuntime) {
     let mut input = [0u8; 262144];
-    let n = cases::read_full(&mut rt.stdin(), &mut input).unwrap_or_else(|stopped| stopped.count);
+    let n = cases::read_full(&mut rt.stdin(), &mut input);
     run_all(&rt, &input[..n]);
 }
