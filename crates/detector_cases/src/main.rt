@@ -20,10 +20,15 @@ use cases::{CutOff, Records};
 // What the buffer is filled with.
 const FILL: u8 = 0xAA;
 
-// What can not be written is passed over, here and below.
+// The digits of base sixteen.
+const DIGITS: [u8; 16] = *b"0123456789ABCDEF";
+
+// Each byte in two digits; what can not be written is passed over, here and below. Not by `{:02X}`: a formatter for each byte is most of the
+// program's work.
 fn print_bytes(rt: &impl Print, bytes: &[u8]) {
     for b in bytes {
-        let _ = print!(rt; "{b:02X}");
+        let text = [DIGITS[usize::from(b / 16)], DIGITS[usize::from(b % 16)]];
+        let _ = rt.write_all(&text);
     }
 }
 
@@ -42,7 +47,8 @@ fn run(rt: &impl Print, record: &[u8], n: usize) {
         return;
     }
     let returned = detector::geckoneedle_detect(record, &mut array[..n]);
-    let _ = print!(rt; "{returned} ");
+    let _ = print!(rt; "{returned}");
+    let _ = print!(rt; " ");
     print_bytes(rt, &array[..n]);
     let _ = println!(rt; "");
     if !untouched(&array[n..]) {
@@ -74,7 +80,7 @@ fn run_all(rt: &impl Print, input: &[u8]) -> Result<(), CutOff> {
 // Where a read fails, the test cases that were read before are run.
 fn main(rt: HostRuntime) {
     let mut input = [0u8; 4096];
-    let n = cases::read_full(&mut rt.stdin(), &mut input).unwrap_or_else(|stopped| stopped.count);
+    let n = cases::read_full(&mut rt.stdin(), &mut input);
     if let Err(CutOff) = run_all(&rt, &input[..n]) {
         let _ = println!(rt; "cut off");
     }
