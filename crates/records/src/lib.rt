@@ -42,7 +42,9 @@ impl NumberList<'_> {
         }
     }
 
-    // The kind that the list calls for at a place, once the numbers before it are in their ranges.
+    // The kind that the list calls for at a place, once the numbers before it are in their ranges. Part of each caller, which has the layout and
+    // the first numbers at hand.
+    #[inline(always)]
     #[tactic(auto, using(crate::proofs::Places::kind_laws))]
     fn kind_at(&self, i: usize) -> Kind
         requires { Asked self.now.layout self.now.numbers.now i }
