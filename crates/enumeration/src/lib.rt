@@ -74,7 +74,7 @@ fn fill_rows(rows: usize, base: u64, column: u64, axes: &[u64; AXES], least: &mu
     ensures { least.new
         ≡ filled_from rows (same_column column) rows (filled_from 0 (column_metric base axes.now) rows least.old) }
 {
-    metric::fill_sums(base, &axes[..rows], &mut least[..rows]);
+    metric::fill_sums(base, &axes[0..rows], &mut least[..rows]);
     least[rows..2 * rows].fill(column);
 }
 

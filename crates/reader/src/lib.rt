@@ -141,7 +141,8 @@ fn read_sized(
     read_limited(cursor, layout, numbers)
 }
 
-// Does the record begin with the opening of a layout?
+// Does the record begin with the opening of a layout? Bytes too few for it do not, which the two laws say.
+#[tactic(auto, using(block::proofs::Openings::starts_short, block::proofs::Openings::four))]
 fn has_opening(bytes: &[u8], layout: Layout) -> bool
     ensures { result ≡ starts_with (opening layout) bytes.now }
 {
