@@ -1,8 +1,12 @@
 -- What the program's own functions answer.
-use Rattle.std.specs.Prelude.{ℕ, Bool, List, [], ◌∷◌, eqb, Ok, Err, Result}
+use Rattle.std.specs.Prelude.{ℕ, ◌+◌, Bool, cond, ltb, List, [], ◌∷◌, eqb, Ok, Err, Result}
 use Rattle.std.specs.List.{list_all}
 use Rattle.cases.specs.Cases.{length_at}
 use Rattle.cases.specs.declared.CutOff.{CutOff}
+
+-- A digit of base sixteen as text, in upper case
+abbrev pub hex_digit : ℕ → ℕ
+hex_digit d = cond (ltb d 10) (48 + d) (55 + d)
 
 -- Whether every byte is the one that the buffer is filled with
 abbrev pub all_fill : List ℕ → Bool

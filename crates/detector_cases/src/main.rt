@@ -12,22 +12,27 @@
 // and 1, 1, 2 with D = 3, of 1, 2, 2, 1 with D = 4, and with W = 7 of 1, 3, 1 and 1, 4, 1, where owner 4's vector is another.
 #![tactic(auto)]
 
-ghost use Rattle.std.specs.Prelude.{◌≡◌};
-ghost use Rattle.detector_cases.specs.Bench.{all_fill, two_bytes};
+ghost use Rattle.std.specs.Prelude.{◌≡◌, ◌<◌};
+ghost use Rattle.detector_cases.specs.Bench.{hex_digit, all_fill, two_bytes};
 
 use cases::{CutOff, Records};
 
 // What the buffer is filled with.
 const FILL: u8 = 0xAA;
 
-// The digits of base sixteen.
-const DIGITS: [u8; 16] = *b"0123456789ABCDEF";
+// A digit of base sixteen as text.
+fn digit(d: u8) -> u8
+    requires { d < 16 }
+    ensures { result ≡ hex_digit d }
+{
+    if d < 10 { b'0' + d } else { b'A' + (d - 10) }
+}
 
-// Each byte in two digits; what can not be written is passed over, here and below. Not by `{:02X}`: a formatter for each byte is most of the
-// program's work.
+// Each byte in two digits; what can not be written is passed over, here and below. Not by `{:02X}`: where many bytes are printed, a formatter
+// for each was most of the work.
 fn print_bytes(rt: &impl Print, bytes: &[u8]) {
     for b in bytes {
-        let text = [DIGITS[usize::from(b / 16)], DIGITS[usize::from(b % 16)]];
+        let text = [digit(b / 16), digit(b % 16)];
         let _ = rt.write_all(&text);
     }
 }
