@@ -20,7 +20,7 @@ BY_HAND = {
     "places that are written one by one": r"(\w+)\[0\] = (\w+)\[0\];\n\s+\1\[1\] = \2\[1\];",
     "items that are copied or compared one by one": r"^ +(?:while (\w+) < [^{]+|for (\w+) in [^{]+)\{\n\s+(if \w+\[\w+\] != |\w+\[[^\]]*\] = \w+(\[[^\]]*\])?;)",
     "a number of two bytes": r"\+ 256 \* \(",
-    "a digit of base sixteen": r"if \w+ < 10 \{ 48 \+ ",
+    "a digit of base sixteen": r"if \w+ < 10 \{ (48|b'0') \+ ",
     "an order that is asked number by number": r"if (\w+)\.(\w+) != (\w+)\.\w+ \{\n\s+return \1\.\2 < ",
     "a variant of a number by if": r"if (\w+) == 1 \{\n\s+return \w+::",
     "a number of a variant by match": r"\w+::\w+ => 1,\n\s+\w+::\w+ => 2,",
